@@ -159,7 +159,7 @@ module _ (v : View) (p : SubscriptPair) (vector : List Direction) (fits : FitsLo
   }
 
 -- the code's test of two numbers
-lt_decided : (a b : ℤ) → IsTrue (lt_z a b) ↔ (a <ℤ b)
+pub lt_decided : (a b : ℤ) → IsTrue (lt_z a b) ↔ (a <ℤ b)
 lt_decided a b = (λ t. to t, λ h. from h)
   where
     to : IsTrue (lt_z a b) → a <ℤ b

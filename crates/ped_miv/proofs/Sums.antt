@@ -1,21 +1,28 @@
--- Sums of what the loops of a front add, and of what those behind it add.
-use Rattle.std.proofs.Common.{◌≡◌, ◌↔◌, ℕ, ◌+◌, ◌-◌, ◌*◌, ◌^◌, ◌<◌, ◌≤◌, refl, sym, ap, subst, ◌∙◌, arith, ℤ, pos, ◌+ℤ◌, ◌-ℤ◌, List, [], ◌∷◌, ◌++◌, length, drop, get_or, Some, None, unsigned_abs, false}
-use Rattle.std.proofs.lemmas.List.{append-nil, append_assoc, length_push, get_or_default}
+-- Sums of what the loops of a front add, and of what those behind it add, and the bounds of these over all directions.
+use Rattle.std.proofs.Common.{◌≡◌, ◌↔◌, ℕ, ◌+◌, ◌-◌, ◌*◌, ◌^◌, ◌<◌, ◌≤◌, refl, sym, ap, subst, ◌∙◌, arith, ℤ, pos, ◌+ℤ◌, ◌-ℤ◌, List, [], ◌∷◌, ◌++◌, length, drop, get_or, Some, None, unsigned_abs, false, inl, inr, ◌≤ℤ◌, ◌<ℤ◌, replicate, Option, IsTrue, FitsSigned}
+use Rattle.std.proofs.lemmas.List.{append-nil, append_assoc, length_push, get_or_default, length-replicate}
 use Rattle.ped_views.specs.declared.directions.Direction.{Direction}
 use Rattle.ped_views.specs.declared.intervals.Interval.{Interval}
 use Rattle.ped_views.specs.Intervals.{IsWithin, IsImageOfBoth}
 use Rattle.ped_views.specs.Limits.{FitsLoops}
 use Rattle.ped_views.specs.Views.{Range, range, SubscriptPair, View}
 use Rattle.ped_views.proofs.Products.{linear}
-use Rattle.ped_views.proofs.Images.{add_ends}
+use Rattle.ped_views.proofs.Images.{add_ends, min_one, max_one}
 use Rattle.ped_miv.specs.declared.parts.LoopParts.{LoopParts}
 use Rattle.ped_miv.specs.Values.{Extreme, AreExtremes, Plus, LoopValue, CommonValue, InnerValue, DifferenceValue}
 use Rattle.ped_miv.specs.Parts.{IsPart, ArePartsAt, CommonFrom, IsRest, IsSum, MaySum, part_of}
 use Rattle.ped_miv.proofs.Ahead.{Ahead, Ahead-step, Ahead-stop, within_step}
 use Rattle.ped_miv.proofs.Extremal.{extreme_plus}
 use Rattle.ped_miv.proofs.Parted.{in_direction}
-use Rattle.ped_miv.proofs.Points.{no_common, no_source, no_sink, difference_extreme}
+use Rattle.ped_miv.proofs.Points.{no_common, no_source, no_sink, difference_extreme, beyond_nothing, beyond_least, beyond_greatest, not_beyond, lt_decided}
 use Rattle.ped_miv.proofs.Steps.{here, past}
+use Rattle.std.specs.Int.{int_max, int_min, w128}
+use lib.Signed.{lt_z}
+use Rattle.std.proofs.lemmas.Int.{clamps, by_lt_z}
+use Rattle.ped_views.specs.declared.directions.Direction.TheVariants.{Before, Same, After}
+use Rattle.ped_views.specs.Excluded.{IsBeyondExtremes}
+use Rattle.ped_miv.specs.declared.bounds.Bounds.{Bounds}
+use Rattle.ped_miv.specs.Bounds.{BoundsLoop, AreDirectionsFrom, BoundsFrom, MayBound}
 
 extreme_at : (P : ℤ → Type 0) (l h m n : ℤ) → l ≡ m → h ≡ n → Extreme P l h → Extreme P m n
 extreme_at P l h m n e f x = subst (λ (y : ℤ). Extreme P m y) f (subst (λ (y : ℤ). Extreme P y h) e x)
@@ -173,3 +180,157 @@ module _ (v : View) (p : SubscriptPair) (front : List Direction) (sum : Interval
       let ends = add_ends sum behind total h.small.ordered r.small.ordered image in
       subst (λ (xs : List Direction). Extreme (DifferenceValue v p xs) total.lo total.hi) (append-nil front)
       (extreme_at (DifferenceValue v p (front ++ [])) (sum.lo +ℤ behind.lo) (sum.hi +ℤ behind.hi) total.lo total.hi (omega (arith, linear)) (omega (arith, linear)) (h.some [] behind.lo behind.hi r.extremes))
+
+-- the bounds of a loop, from what it adds in each direction
+module _ (parts : LoopParts) (x y z : Interval) (w : Bounds) (ex : part_of Before parts ≡ Some x) (ey : part_of Same parts ≡ Some y) (ez : part_of After parts ≡ Some z) (lo : w.lo ≡ int_max (int_max x.lo y.lo) z.lo) (hi : w.hi ≡ int_min (int_min x.hi y.hi) z.hi) where
+  in_each : (d : Direction) → (i : Interval) × (part_of d parts ≡ Some i) × (i.lo ≤ℤ w.lo) × (w.hi ≤ℤ i.hi)
+  in_each Before = (x, ex, omega (arith, linear, clamps), omega (arith, linear, clamps))
+  in_each Same = (y, ey, omega (arith, linear, clamps), omega (arith, linear, clamps))
+  in_each After = (z, ez, omega (arith, linear, clamps), omega (arith, linear, clamps))
+
+  pub bounds_loop : BoundsLoop parts w
+  bounds_loop = record {
+    each = in_each;
+    lo = elim (max_one (int_max x.lo y.lo) z.lo) [
+      | inl e ↦ elim (max_one x.lo y.lo) [ inl f ↦ (Before, x, ex, sym (lo ∙ e ∙ f)) | inr f ↦ (Same, y, ey, sym (lo ∙ e ∙ f)) ]
+      | inr e ↦ (After, z, ez, sym (lo ∙ e))
+    ];
+    hi = elim (min_one (int_min x.hi y.hi) z.hi) [
+      | inl e ↦ elim (min_one x.hi y.hi) [ inl f ↦ (Before, x, ex, sym (hi ∙ e ∙ f)) | inr f ↦ (Same, y, ey, sym (hi ∙ e ∙ f)) ]
+      | inr e ↦ (After, z, ez, sym (hi ∙ e))
+    ];
+  }
+
+-- behind the last loop
+module _ (v : View) (p : SubscriptPair) (w : Bounds) (lo : w.lo ≡ pos 0) (hi : w.hi ≡ pos 0) where
+  nothing : Extreme (CommonFrom v p (length v.loops) []) w.lo w.hi
+  nothing =
+      let h = rest_none v p (record { lo = pos 0; hi = pos 0 }) refl refl in
+      extreme_at (CommonFrom v p (length v.loops) []) (pos 0) (pos 0) w.lo w.hi (sym lo) (sym hi) h.extremes
+
+  none_behind : (rest : List Direction) → AreDirectionsFrom v (length v.loops) rest → (l : ℤ) × (h : ℤ) × Extreme (CommonFrom v p (length v.loops) rest) l h × (l ≤ℤ w.lo) × (w.hi ≤ℤ h)
+  none_behind [] e = (w.lo, w.hi, nothing, omega (arith, linear), omega (arith, linear))
+  none_behind (d ∷ rest) e = absurd (omega (arith, e))
+
+  pub bounds_none : MayBound v p (length v.loops) (Some w)
+  bounds_none = record {
+    each = none_behind;
+    lo = ([], omega arith, w.hi, nothing);
+    hi = ([], omega arith, w.lo, nothing);
+    lo_small = omega (arith, linear, lo);
+    hi_small = omega (arith, linear, hi);
+  }
+
+module _ (v : View) (p : SubscriptPair) (fits : FitsLoops (length v.loops) (length v.source_inner) (length v.sink_inner) p) (k : ℕ) (below : k < length v.loops) (parts : LoopParts) (are : ArePartsAt v.loops p.source.common p.sink.common k parts) where
+  abbrev Here : Direction → ℤ → Type 0
+  Here d = LoopValue (r v p fits k below) (Some d) (a v p fits k below) (b v p fits k below)
+
+  part_here : (d : Direction) → IsPart (r v p fits k below) (Some d) (a v p fits k below) (b v p fits k below) (part_of d parts)
+  part_here d = in_direction (r v p fits k below) (a v p fits k below) (b v p fits k below) parts (are (r v p fits k below) (its v p fits k below)) d
+
+  -- some directions behind the loop have no values
+  pub bounds_stop : MayBound v p (k + 1) None → MayBound v p k None
+  bounds_stop (rest, e, none) = (Same ∷ rest, omega (arith, e), λ x c. let s = (opens v p fits k below Same rest x).0 c in none s.1 s.3)
+
+  -- the loop has no values in some direction
+  pub bounds_lack : (d : Direction) → part_of d parts ≡ None → MayBound v p k None
+  bounds_lack d e =
+      let others = replicate (length v.loops - (k + 1)) Same in
+      let l : length others ≡ length v.loops - (k + 1) = length-replicate (length v.loops - (k + 1)) Same in
+      let none = subst (AreExtremes (Here d)) e (part_here d).extremes in
+      (d ∷ others, omega (arith, l, below), λ x c. let s = (opens v p fits k below d others x).0 c in none s.0 s.2)
+
+  small_here : (d : Direction) (x : Interval) → part_of d parts ≡ Some x → (unsigned_abs x.lo ≤ 2 ^ 94) × (unsigned_abs x.hi ≤ 2 ^ 94)
+  small_here d x e =
+      let part : IsPart (r v p fits k below) (Some d) (a v p fits k below) (b v p fits k below) (Some x) = subst (IsPart (r v p fits k below) (Some d) (a v p fits k below) (b v p fits k below)) e (part_here d) in
+      (part.small.lo_small, part.small.hi_small)
+
+  -- the bounds of the loop are small, and so are their sums with those of the loops behind it
+  module _ (one behind : Bounds) (own : BoundsLoop parts one) (after : BoundsFrom v p (k + 1) behind) where
+    pub grown_small : (unsigned_abs (behind.lo +ℤ one.lo) ≤ 2 ^ 100) × (unsigned_abs (behind.hi +ℤ one.hi) ≤ 2 ^ 100)
+    grown_small =
+        let (d, x, ex, xl) = own.lo in
+        let (c, y, ey, yh) = own.hi in
+        let xs = (small_here d x ex).0 in
+        let ys = (small_here c y ey).1 in
+        let s = after.lo_small in
+        let t = after.hi_small in
+        (omega (arith, linear, s, xs, xl), omega (arith, linear, t, ys, yh))
+
+  module _ (one behind more : Bounds) (own : BoundsLoop parts one) (after : BoundsFrom v p (k + 1) behind) (lo : more.lo ≡ behind.lo +ℤ one.lo) (hi : more.hi ≡ behind.hi +ℤ one.hi) where
+    -- the extremes in a direction of the loop and directions behind it
+    together : (d : Direction) (rest : List Direction) (x : Interval) (l h : ℤ) → part_of d parts ≡ Some x → Extreme (CommonFrom v p (k + 1) rest) l h → Extreme (CommonFrom v p k (d ∷ rest)) (x.lo +ℤ l) (x.hi +ℤ h)
+    together d rest x l h e tail =
+        let part : IsPart (r v p fits k below) (Some d) (a v p fits k below) (b v p fits k below) (Some x) = subst (IsPart (r v p fits k below) (Some d) (a v p fits k below) (b v p fits k below)) e (part_here d) in
+        let both = extreme_plus (Here d) (CommonFrom v p (k + 1) rest) x.lo x.hi l h part.extremes tail in
+        record {
+          least = (opens v p fits k below d rest (x.lo +ℤ l)).1 both.least;
+          greatest = (opens v p fits k below d rest (x.hi +ℤ h)).1 both.greatest;
+          between = λ w c. both.between w ((opens v p fits k below d rest w).0 c);
+        }
+
+    each_longer : (rest : List Direction) → AreDirectionsFrom v k rest → (l : ℤ) × (h : ℤ) × Extreme (CommonFrom v p k rest) l h × (l ≤ℤ more.lo) × (more.hi ≤ℤ h)
+    each_longer [] e = absurd (omega (arith, e, below))
+    each_longer (d ∷ rest) e =
+        let (x, ex, xl, xh) = own.each d in
+        let (l, h, tail, tl, th) = after.each rest (omega (arith, e)) in
+        (x.lo +ℤ l, x.hi +ℤ h, together d rest x l h ex tail, omega (arith, linear, xl, tl, lo), omega (arith, linear, xh, th, hi))
+
+    pub bounds_grow : k < 6 → MayBound v p k (Some more)
+    bounds_grow few =
+        let (d, x, ex, xl) = own.lo in
+        let (rest, e, h, tail) = after.lo in
+        let (c, y, ey, yh) = own.hi in
+        let (others, f, l, end) = after.hi in
+        let count : (6 - k) * 2 ^ 94 ≡ (6 - (k + 1) + 1) * 2 ^ 94 = ap (λ (n : ℕ). n * 2 ^ 94) (omega (arith, few)) in
+        let xs = (small_here d x ex).0 in
+        let ys = (small_here c y ey).1 in
+        record {
+          each = each_longer;
+          lo = (d ∷ rest, omega (arith, e), x.hi +ℤ h, extreme_at (CommonFrom v p k (d ∷ rest)) (x.lo +ℤ behind.lo) (x.hi +ℤ h) more.lo (x.hi +ℤ h) (omega (arith, linear, xl, lo)) refl (together d rest x behind.lo h ex tail));
+          hi = (c ∷ others, omega (arith, f), y.lo +ℤ l, extreme_at (CommonFrom v p k (c ∷ others)) (y.lo +ℤ l) (y.hi +ℤ behind.hi) (y.lo +ℤ l) more.hi refl (omega (arith, linear, yh, hi)) (together c others y l behind.hi ey end));
+          lo_small = let s = after.lo_small in omega (arith, linear, count, s, xs, xl, lo);
+          hi_small = let s = after.hi_small in omega (arith, linear, count, s, ys, yh, hi);
+        }
+
+-- the vectors with a front
+module _ (v : View) (p : SubscriptPair) (front : List Direction) (sum : Interval) (h : IsSum v p front sum) where
+  abbrev pub SomeBeyond : Type 0
+  SomeBeyond = (rest : List Direction) × (length rest + length front ≡ length v.loops) × IsBeyondExtremes v p (front ++ rest)
+
+  pub some_without : MayBound v p (length front) None → SomeBeyond
+  some_without (rest, e, none) = (rest, e, beyond_nothing v p (front ++ rest) (h.none rest none))
+
+  module _ (w : Bounds) (bounds : BoundsFrom v p (length front) w) where
+    pub total_small : length front ≤ 6 → (unsigned_abs (sum.lo +ℤ w.lo) ≤ 2 ^ 100) × (unsigned_abs (sum.hi +ℤ w.hi) ≤ 2 ^ 100)
+    total_small few =
+        let sl = h.small.lo_small in
+        let sh = h.small.hi_small in
+        let wl = bounds.lo_small in
+        let wh = bounds.hi_small in
+        (omega (arith, linear, sl, wl, few), omega (arith, linear, sh, wh, few))
+
+    pub some_above : pos 0 <ℤ (sum.lo +ℤ w.lo) → SomeBeyond
+    some_above more =
+        let (rest, e, top, x) = bounds.lo in
+        (rest, e, beyond_least v p (front ++ rest) (sum.lo +ℤ w.lo) (sum.hi +ℤ top) (h.some rest w.lo top x) more)
+
+    pub some_below : (sum.hi +ℤ w.hi) <ℤ pos 0 → SomeBeyond
+    some_below less =
+        let (rest, e, low, x) = bounds.hi in
+        (rest, e, beyond_greatest v p (front ++ rest) (sum.lo +ℤ low) (sum.hi +ℤ w.hi) (h.some rest low w.hi x) less)
+
+    none_beyond : (sum.lo +ℤ w.lo) ≤ℤ pos 0 → pos 0 ≤ℤ (sum.hi +ℤ w.hi) → ¬ SomeBeyond
+    none_beyond from to (rest, e, beyond) =
+        let (low, top, x, l, t) = bounds.each rest e in
+        not_beyond v p (front ++ rest) (sum.lo +ℤ low) (sum.hi +ℤ top) (h.some rest low top x) (omega (arith, linear, from, l)) (omega (arith, linear, to, t)) beyond
+
+    -- the second half of the code's test, where the first fails
+    pub some_decided : (sum.lo +ℤ w.lo) ≤ℤ pos 0 → IsTrue (lt_z (sum.hi +ℤ w.hi) (pos 0)) ↔ SomeBeyond
+    some_decided from =
+        let d = lt_decided (sum.hi +ℤ w.hi) (pos 0) in
+        (λ x. some_below (d.0 x), λ b. d.1 (by_lt_z (sum.hi +ℤ w.hi) (pos 0) (λ m. m) (λ m. absurd (none_beyond from m b))))
+
+-- so small a number fits 128 bits
+pub short : (x : ℤ) → unsigned_abs x ≤ 2 ^ 100 → FitsSigned w128 x
+short x s = omega (arith, linear, s)

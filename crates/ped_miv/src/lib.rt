@@ -3,6 +3,7 @@
 #![tactic(auto)]
 
 mod banerjee;
+mod bounds;
 mod differences;
 mod extremes;
 mod parts;
@@ -10,5 +11,6 @@ mod rows;
 mod solutions;
 
 pub use banerjee::{banerjee_excludes, may_refine};
+pub use bounds::{Bounds, any_excluded, bounds_from, no_bounds};
 pub use parts::{LoopParts, loop_parts, no_rest, rest_from, sum_at_start, sum_with, sums_exclude};
 pub use solutions::gcd_excludes;

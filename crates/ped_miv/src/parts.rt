@@ -23,6 +23,19 @@ pub struct LoopParts {
     after: Option<Interval>,
 }
 
+impl LoopParts {
+    /// What the loop adds in a direction.
+    pub(crate) fn under(&self, direction: Direction) -> Option<Interval>
+        ensures { result ≡ part_of direction self.now }
+    {
+        match direction {
+            Direction::Before => self.before,
+            Direction::Same => self.same,
+            Direction::After => self.after,
+        }
+    }
+}
+
 /// What the common loop at this place adds at a position of the view.
 pub fn loop_parts(view: &PairView, position: &Position, place: usize) -> LoopParts
     requires place { place < length view.now.loops }
@@ -132,19 +145,8 @@ pub fn sum_with(
         parts.now }
     ensures { MaySum _view.now _position.now (_front.now ++ direction ∷ []) result }
 {
-    let part = part_under(parts, direction)?;
+    let part = parts.under(direction)?;
     Some(sum.add(part))
-}
-
-/// What a loop adds in a direction.
-fn part_under(parts: &LoopParts, direction: Direction) -> Option<Interval>
-    ensures { result ≡ part_of direction parts.now }
-{
-    match direction {
-        Direction::Before => parts.before,
-        Direction::Same => parts.same,
-        Direction::After => parts.after,
-    }
 }
 
 /// Whether the extremes of the difference of its two subscripts exclude a front at a position, as

@@ -3,7 +3,7 @@ use Rattle.std.proofs.Common.{◌≡◌, ◌⊎◌, ◌↔◌, ℕ, zero, suc, �
 use Rattle.std.specs.List.{All, Any, list_all}
 use Rattle.std.proofs.lemmas.Bool.{cases_Bool, cases_lt, false≢true}
 use Rattle.std.proofs.lemmas.Bool.Decides.{Decides-int_eq}
-use Rattle.std.proofs.lemmas.List.{append_assoc, length_push, get_or_default, get_or_append_left}
+use Rattle.std.proofs.lemmas.List.{append_assoc, length-append, length_push, get_or_default, get_or_append_left}
 use Rattle.std.proofs.lemmas.List.Elements.{All-from_recursion, All-nil, All-push}
 use Rattle.std.proofs.lemmas.List.Quantifiers.{Any-push}
 use Rattle.std.proofs.lemmas.Option.{slice_get_within, slice_get-get_or}
@@ -12,15 +12,15 @@ use Rattle.ped_views.specs.Whole.{is_zero}
 use Rattle.ped_views.specs.Views.{SubscriptPair, View}
 use Rattle.ped_views.specs.Forms.{Occurrence, Form, ziv, strong_siv, weak_zero_siv, weak_crossing_siv, other_form, form_of}
 use Rattle.ped_views.specs.Limits.{IsPosition, FitsLoops, IsView}
-use Rattle.ped_views.specs.Excluded.{Excludes}
+use Rattle.ped_views.specs.Excluded.{HasNoSolution, Excludes}
 use Rattle.ped_verdict.specs.declared.sights.Sight.{Sight}
 use Rattle.ped_verdict.specs.Fronts.{is_done, occurs_at, is_asked}
 use Rattle.ped_verdict.specs.Marked.{SingleExcludes, AreExcluded, AreAdded, Each}
-use Rattle.ped_verdict.specs.Sights.{IsSight, IsOther, IsSightIn, AreSights, OtherExcludes, IsShut, Shuts, IsFree}
+use Rattle.ped_verdict.specs.Sights.{IsSight, IsOther, IsSightIn, AreSights, OtherExcludes, IsShut, IsOpen, Shuts, StaysOpen, IsFree}
 use Rattle.ped_verdict.proofs.Added.{added_none, added_as, some_same}
 use Rattle.ped_verdict.proofs.Answering.{is_there}
 use Rattle.ped_verdict.proofs.FormFacts.{both}
-use Rattle.ped_verdict.proofs.Begun.{not_failed, zeros, AllZero, ZeroBetween, zero_none, zero_more, shut_beyond, shut_unsolved, free_front}
+use Rattle.ped_verdict.proofs.Begun.{not_failed, zeros, AllZero, ZeroBetween, zero_none, zero_more, shut_beyond, shut_unsolved, free_front, out_of_excludes}
 
 -- what isn't told doesn't hold
 pub not_held_by : (t : Bool) (P : Type 0) → IsTrue t ↔ P → t ≡ false → ¬ P
@@ -148,6 +148,34 @@ module _ (v : View) (front : List Direction) (s : Sight) (h : IsSightIn v s) whe
       (λ n. not_so (record { pair = h.pair; there = h.there; asked = asked; shut = inr (at, n) })) rest
       (subst (λ (q : SubscriptPair). Excludes v q (front ++ rest)) same x)
 
+  -- what isn't left open, and excludes nothing with the front once its stage has come, excludes no vector over all loops with it
+  pub closed_at : length v.loops ≤ 6 → ¬ (StaysOpen v front s) → (s.stage ≤ length front → IsFree v s front) → (rest : List Direction) → length (front ++ rest) ≡ length v.loops → ¬ (Excludes v h.pair (front ++ rest))
+  closed_at few not_so free rest l x = elim (cases_lt (length front) s.stage) [
+    | inl less ↦ elim (out_of_excludes v h.pair h.other.0 h.other.1 (front ++ rest) x) [
+      | inl n ↦ by less n (cases_Bool s.is_solved)
+      | inr b ↦ not_so (record { pair = h.pair; there = h.there; undecided = (less, inr (rest, (let a = length-append front rest in omega (arith, a, l)), b)) })
+    ]
+    | inr past ↦ free past h.pair h.there rest x
+  ]
+    where
+      by : length front < s.stage → HasNoSolution h.pair (front ++ rest) → (s.is_solved ≡ true) ⊎ (s.is_solved ≡ false) → ⊥
+      by less n (inl y) = h.sight.solved y (front ++ rest) (omega (arith, l, few)) n
+      by less n (inr f) = not_so (record { pair = h.pair; there = h.there; undecided = (less, inl f) })
+
+  -- what is told of the position that was read is told of the sight's
+  module _ (p : SubscriptPair) (same : p ≡ h.pair) where
+    pub open_told : (t : Bool) → IsTrue t ↔ IsOpen v p s front → IsTrue t ↔ StaysOpen v front s
+    open_told t told = (
+      λ x. record { pair = p; there = h.there ∙ ap (λ (q : SubscriptPair). Some q) (sym same); undecided = told.0 x },
+      λ x. told.1 (subst (λ (q : SubscriptPair). IsOpen v q s front) (some_same (sym x.there ∙ h.there) ∙ sym same) x.undecided),
+    )
+
+    pub read_fits : FitsLoops (length v.loops) (length v.source_inner) (length v.sink_inner) p
+    read_fits = subst (FitsLoops (length v.loops) (length v.source_inner) (length v.sink_inner)) (sym same) h.fits
+
+    pub read_sight : IsSight v p s
+    read_sight = subst (λ (q : SubscriptPair). IsSight v q s) (sym same) h.sight
+
   -- the position that was read is the sight's
   pub read_pair : (seen : View) → seen ≡ v → IsView seen → (p : SubscriptPair) → p ≡ get_or seen.positions s.position p → p ≡ h.pair
   read_pair seen shown view p is =
@@ -199,71 +227,35 @@ module _ (v : View) (sights : List Sight) (all : AreSights v (length v.positions
       (λ vector l (rest, is). (λ x. subst (OtherExcludes v) is (excluded_by v front a.1 (subst (IsSightIn v) a.3 (all.each a.0 a.1 a.2)) a.4 rest), λ x. tt))
       (subst (λ (m : ℕ). AreAdded m front Each old new) e marks)
 
-  -- where the front has come to all stages, nothing with it is excluded
-  none_left : All (λ s. s.stage ≤ length front) sights → All (λ s. s.stage ≤ length front → IsFree v s front) sights → (rest : List Direction) → ¬ (OtherExcludes v (front ++ rest))
-  none_left deep free rest x =
-      let a = all.all x.place x.pair (slice_get_within v.positions x.place x.pair x.there) x.there (x.excludes.0, x.form) in
-      let f : IsFree v a.1 front = subst (λ (s : Sight). IsFree v s front) a.3 (free a.0 a.1 a.2 (deep a.0 a.1 a.2)) in
-      f x.pair (ap (λ (j : ℕ). slice_get v.positions j) a.4 ∙ x.there) rest x.excludes
+  -- a front that is left open isn't over all loops
+  pub open_within : Any (StaysOpen v front) sights → length front < length v.loops
+  open_within o =
+      let deep = (subst (IsSightIn v) o.3 (all.each o.0 o.1 o.2)).sight.deep in
+      let behind = o.4.undecided.0 in
+      omega (arith, deep, behind)
 
-  pub free_marked : (stage : ℕ) (row : List Bool) → stage ≤ length front → All (λ s. s.stage ≤ stage) sights → All (λ s. s.stage ≤ length front → IsFree v s front) sights → AreAdded (length v.loops) front (OtherExcludes v) row row
-  free_marked stage row past deep free =
-      added_none (length v.loops) front (OtherExcludes v) row
-      (λ vector l (rest, is) x. none_left (λ i d below. (let b = deep i d below in omega (arith, b, past))) free rest (subst (OtherExcludes v) (sym is) x))
+  -- where no position shuts a front or leaves it open, nothing with it is excluded
+  module _ (few : length v.loops ≤ 6) (none : ¬ (Any (StaysOpen v front) sights)) (free : All (λ s. s.stage ≤ length front → IsFree v s front) sights) where
+    none_left : (rest : List Direction) → length (front ++ rest) ≡ length v.loops → ¬ (OtherExcludes v (front ++ rest))
+    none_left rest l x =
+        let a = all.all x.place x.pair (slice_get_within v.positions x.place x.pair x.there) x.there (x.excludes.0, x.form) in
+        let sight : IsSightIn v a.1 = subst (IsSightIn v) a.3 (all.each a.0 a.1 a.2) in
+        let same : x.pair ≡ sight.pair = some_same (sym x.there ∙ (ap (λ (j : ℕ). slice_get v.positions j) (sym a.4) ∙ sight.there)) in
+        closed_at v front a.1 sight few (λ o. none (a.0, a.1, a.2, a.3, o)) (subst (λ (s : Sight). s.stage ≤ length front → IsFree v s front) a.3 (free a.0 a.1 a.2)) rest l
+        (subst (λ (q : SubscriptPair). Excludes v q (front ++ rest)) same x.excludes)
 
--- no sight so far shuts a front, and the next doesn't
-pub none_further : (v : View) (front : List Direction) (sights : List Sight) (i : ℕ) (x : Sight) → i < length sights → x ≡ get_or sights i x → ((k : ℕ) (s : Sight) → k < i → get_or sights k s ≡ s → ¬ (Shuts v front s)) → ¬ (Shuts v front x) → (k : ℕ) (s : Sight) → k < i + 1 → get_or sights k s ≡ s → ¬ (Shuts v front s)
-none_further v front sights i x inside read before here k s below is = elim (cases_lt k i) [
+    pub closed_marked : (row : List Bool) → AreAdded (length v.loops) front (OtherExcludes v) row row
+    closed_marked row = added_none (length v.loops) front (OtherExcludes v) row (λ vector l (rest, is) x. none_left rest (ap length is ∙ l) (subst (OtherExcludes v) (sym is) x))
+
+-- none so far is such a sight, and the next isn't
+pub none_further : (P : Sight → Type 0) (sights : List Sight) (i : ℕ) (x : Sight) → i < length sights → x ≡ get_or sights i x → ((k : ℕ) (s : Sight) → k < i → get_or sights k s ≡ s → ¬ (P s)) → ¬ (P x) → (k : ℕ) (s : Sight) → k < i + 1 → get_or sights k s ≡ s → ¬ (P s)
+none_further P sights i x inside read before here k s below is = elim (cases_lt k i) [
   | inl less ↦ before k s less is
   | inr past ↦
       let e : k ≡ i = omega arith in
       let same : x ≡ s = read ∙ (get_or_default sights i x s inside ∙ (ap (λ (j : ℕ). get_or sights j s) (sym e) ∙ is)) in
-      subst (λ (z : Sight). ¬ (Shuts v front z)) same here
+      subst (λ (z : Sight). ¬ (P z)) same here
 ]
-
--- the last loop that occurs in the first i positions
-pub record DeepestOf (v : View) (sights : List Sight) (i stage : ℕ) : Type 0 where
-  pub within : stage ≤ length v.loops
-  pub all : (k : ℕ) (s : Sight) → k < i → get_or sights k s ≡ s → s.stage ≤ stage
-  pub least : ¬ (stage ≡ 0) → Any (λ s. s.stage ≡ stage) sights
-
-pub deepest_none : (v : View) (sights : List Sight) → DeepestOf v sights 0 0
-deepest_none v sights = record { within = omega arith; all = λ k s below is. absurd (omega (arith, below)); least = λ some. absurd (some refl) }
-
-module _ (v : View) (sights : List Sight) (each : All (IsSightIn v) sights) (i stage next : ℕ) (x : Sight) (inside : i < length sights) (read : x ≡ get_or sights i x) (h : DeepestOf v sights i stage)
-    (more : stage < x.stage → next ≡ x.stage) (same : x.stage ≤ stage → next ≡ stage) where
-  deep : x.stage ≤ length v.loops
-  deep = (subst (IsSightIn v) (sym read) (each i x inside)).sight.deep
-
-  pub deeper : DeepestOf v sights (i + 1) next
-  deeper = elim (cases_lt stage x.stage) [
-    | inl less ↦
-        let e = more less in record {
-          within = (let d = deep in omega (arith, d, e));
-          all = λ k s below is. elim (cases_lt k i) [
-            | inl before ↦ (let b = h.all k s before is in omega (arith, b, less, e))
-            | inr past ↦ (let b = ap (λ (z : Sight). z.stage) (it k s below past is) in omega (arith, b, e))
-          ];
-          least = λ some. (i, x, inside, sym read, sym e);
-        }
-    | inr past_all ↦
-        let e = same past_all in record {
-          within = (let w = h.within in omega (arith, w, e));
-          all = λ k s below is. elim (cases_lt k i) [
-            | inl before ↦ (let b = h.all k s before is in omega (arith, b, e))
-            | inr past ↦ (let b = ap (λ (z : Sight). z.stage) (it k s below past is) in omega (arith, b, e, past_all))
-          ];
-          least = λ some. subst (λ (n : ℕ). Any (λ (z : Sight). z.stage ≡ n) sights) (sym e) (h.least (λ z. some (e ∙ z)));
-        }
-  ]
-    where
-      it : (k : ℕ) (s : Sight) → k < i + 1 → i ≤ k → get_or sights k s ≡ s → x ≡ s
-      it k s below past is =
-          let e : k ≡ i = omega (arith, below, past) in
-          read ∙ (get_or_default sights i x s inside ∙ (ap (λ (j : ℕ). get_or sights j s) (sym e) ∙ is))
-
-pub deepest_all : (v : View) (sights : List Sight) (i stage : ℕ) → length sights ≤ i → DeepestOf v sights i stage → All (λ s. s.stage ≤ stage) sights
-deepest_all v sights i stage past h k d below = h.all k (get_or sights k d) (omega (arith, past, below)) (get_or_default sights k (get_or sights k d) d below)
 
 -- before any direction no stage is passed
 pub passed_none : (v : View) (sights : List Sight) (front : List Direction) → front ≡ [] → All (λ s. s.stage < length front → IsFree v s front) sights

@@ -7,9 +7,11 @@ use Rattle.ped_views.specs.declared.directions.Direction.TheVariants.{Before, Sa
 use Rattle.ped_views.specs.declared.intervals.Interval.{Interval}
 use Rattle.ped_views.specs.Views.{Range, SubscriptPair, View}
 use Rattle.ped_views.specs.Excluded.{SharesIndices, HasNoSolution}
+use Rattle.ped_miv.specs.declared.bounds.Bounds.{Bounds}
 use Rattle.ped_miv.specs.declared.parts.LoopParts.{LoopParts}
+use Rattle.ped_miv.specs.Bounds.{MayBound}
 use Rattle.ped_miv.specs.Parts.{ArePartsAt, AreAllParts, IsRest}
-use Rattle.ped_verdict.specs.Sights.{AreRests}
+use Rattle.ped_verdict.specs.Sights.{AreRests, AreAllBounds}
 use Rattle.ped_verdict.proofs.Begun.{not_held}
 
 -- indices that are equal in all loops are so in those with `=`
@@ -84,6 +86,30 @@ more_rests n v p rests more x e at h = record {
 
 pub all_first_rests : (n : ℕ) (v : View) (p : SubscriptPair) (rests : List (Option Interval)) → FirstRests n v p rests → n ≡ length v.loops + 1 → AreRests v p rests
 all_first_rests n v p rests h e = record {
+  as_many = h.as_many ∙ e;
+  each = λ j x below is. h.each j x (omega (arith, below, e)) is;
+}
+
+-- the bounds of what the last loops add, up to so many
+pub record FirstBounds (n : ℕ) (v : View) (p : SubscriptPair) (bounds : List (Option Bounds)) : Type 0 where
+  pub as_many : length bounds ≡ n
+  pub each : (j : ℕ) (x : Option Bounds) → j < n → x ≡ get_or bounds j x → MayBound v p (length v.loops - j) x
+
+pub first_bounds : (v : View) (p : SubscriptPair) (bounds more : List (Option Bounds)) (x : Option Bounds) → bounds ≡ [] → more ≡ bounds ++ x ∷ [] → MayBound v p (length v.loops) x → FirstBounds 1 v p more
+first_bounds v p bounds more x none e h =
+    let start : length v.loops ≡ length v.loops - 0 = omega arith in record {
+      as_many = ap length e ∙ length_push bounds x ∙ (let l = ap length none in omega arith);
+      each = pushed_item (λ j y. MayBound v p (length v.loops - j) y) bounds more x 0 (ap length none) e (λ j y below is. absurd (omega (arith, below))) (subst (λ (j : ℕ). MayBound v p j x) start h);
+    }
+
+pub more_bounds : (n : ℕ) (v : View) (p : SubscriptPair) (bounds more : List (Option Bounds)) (x : Option Bounds) → more ≡ bounds ++ x ∷ [] → MayBound v p (length v.loops - n) x → FirstBounds n v p bounds → FirstBounds (n + 1) v p more
+more_bounds n v p bounds more x e at h = record {
+  as_many = ap length e ∙ length_push bounds x ∙ (let l = h.as_many in omega arith);
+  each = pushed_item (λ j y. MayBound v p (length v.loops - j) y) bounds more x n h.as_many e h.each at;
+}
+
+pub all_first_bounds : (n : ℕ) (v : View) (p : SubscriptPair) (bounds : List (Option Bounds)) → FirstBounds n v p bounds → n ≡ length v.loops + 1 → AreAllBounds v p bounds
+all_first_bounds n v p bounds h e = record {
   as_many = h.as_many ∙ e;
   each = λ j x below is. h.each j x (omega (arith, below, e)) is;
 }

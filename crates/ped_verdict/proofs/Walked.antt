@@ -1,16 +1,19 @@
 -- What the walk over the fronts of a position finds.
-use Rattle.std.proofs.Common.{◌≡◌, ◌⊎◌, ◌↔◌, ℕ, ◌+◌, ◌-◌, ◌<◌, ◌≤◌, List, [], ◌∷◌, ◌++◌, length, take, drop, get_or, Option, None, Bool, true, false, IsTrue, refl, sym, ap, subst, ◌∙◌, inl, inr, arith}
+use Rattle.std.proofs.Common.{◌≡◌, ◌⊎◌, ◌↔◌, ℕ, ◌+◌, ◌-◌, ◌<◌, ◌≤◌, List, [], ◌∷◌, ◌++◌, length, take, drop, replicate, get_or, Option, None, Bool, true, false, IsTrue, refl, sym, ap, subst, ◌∙◌, inl, inr, arith}
 use Rattle.std.proofs.lemmas.Bool.{cases_Bool, false≢true}
-use Rattle.std.proofs.lemmas.List.{append_assoc, append-nil, take-append-drop, take_more}
+use Rattle.std.proofs.lemmas.List.{append_assoc, append-nil, length-replicate, take-append-drop, take_more}
 use Rattle.ped_views.specs.declared.directions.Direction.{Direction}
+use Rattle.ped_views.specs.declared.directions.Direction.TheVariants.{Same}
 use Rattle.ped_views.specs.declared.intervals.Interval.{Interval}
 use Rattle.ped_views.specs.Views.{SubscriptPair, View}
 use Rattle.ped_views.specs.Limits.{FitsLoops}
 use Rattle.ped_views.specs.Excluded.{HasNoSolution, IsPoint, IsBeyondExtremes, difference}
+use Rattle.ped_miv.specs.declared.bounds.Bounds.{Bounds}
+use Rattle.ped_miv.specs.Bounds.{MayBound}
 use Rattle.ped_miv.specs.Values.{DifferenceValue}
 use Rattle.ped_miv.specs.Parts.{IsRest, MaySum}
 use Rattle.ped_verdict.specs.declared.sights.Sight.{Sight}
-use Rattle.ped_verdict.specs.Sights.{IsSight, IsShut}
+use Rattle.ped_verdict.specs.Sights.{IsSight, IsShut, SomeBeyond}
 
 module _ (v : View) (p : SubscriptPair) where
   -- without values under a front there are none under a longer one
@@ -34,9 +37,22 @@ module _ (v : View) (p : SubscriptPair) where
         let within = sight.deep in
         subst (λ (j : ℕ). IsRest v p j x) (omega arith) (sight.rests.each k x (omega arith) is)
 
+    -- the bounds of what they add
+    pub bounds_there : (k : ℕ) (x : Option Bounds) → k ≡ length v.loops - length front → x ≡ get_or s.bounds.items k x → MayBound v p (length front) x
+    bounds_there k x ek is =
+        let within = sight.deep in
+        subst (λ (j : ℕ). MayBound v p j x) (omega arith) (sight.bounds.each k x (omega arith) is)
+
   -- without values under a front, zero doesn't lie between the extremes
   pub beyond_without : (front : List Direction) → MaySum v p front None → IsBeyondExtremes v p front
   beyond_without front none low high a b x y = none [] (difference p low) (low, subst (λ (w : List Direction). IsPoint v p w low) (sym (append-nil front)) a, refl)
+
+  -- so Banerjee's test excludes each vector with it
+  pub some_without : (front : List Direction) → length front ≤ length v.loops → MaySum v p front None → SomeBeyond v p front
+  some_without front within none =
+      let rest = replicate (length v.loops - length front) Same in
+      let l : length rest ≡ length v.loops - length front = length-replicate (length v.loops - length front) Same in
+      (rest, omega (arith, l, within), beyond_without (front ++ rest) (none_longer front rest (front ++ rest) refl none))
 
   module _ (stage : ℕ) (front : List Direction) where
     pub beyond_tells : IsBeyondExtremes v p front → IsTrue true ↔ IsShut v p stage front

@@ -1,11 +1,14 @@
 -- What is found once of a position of a view, and what it excludes. Only contracts of private functions use it.
 use Rattle.std.specs.Prelude.{◌≡◌, ◌⊎◌, ℕ, ◌+◌, ◌-◌, ◌≤◌, ◌<◌, List, [], ◌++◌, length, Option, Some, false, slice_index_or, slice_get, IsTrue, All, Any}
+use Rattle.std.specs.Bool.{IsFalse}
 use Rattle.ped_views.specs.declared.directions.Direction.{Direction}
 use Rattle.ped_views.specs.declared.intervals.Interval.{Interval}
 use Rattle.ped_views.specs.Views.{SubscriptPair, View}
 use Rattle.ped_views.specs.Forms.{other_form, form_of}
 use Rattle.ped_views.specs.Limits.{FitsLoops}
 use Rattle.ped_views.specs.Excluded.{HasNoSolution, IsBeyondExtremes, Excludes}
+use Rattle.ped_miv.specs.declared.bounds.Bounds.{Bounds}
+use Rattle.ped_miv.specs.Bounds.{MayBound}
 use Rattle.ped_miv.specs.Parts.{AreAllParts, IsRest, MaySum}
 use Rattle.ped_verdict.specs.declared.sights.Sight.{Sight}
 use Rattle.ped_verdict.specs.Fronts.{is_done, is_asked}
@@ -15,11 +18,17 @@ pub record AreRests (v : View) (p : SubscriptPair) (rests : List (Option Interva
   pub as_many : length rests ≡ length v.loops + 1
   pub each : (j : ℕ) (x : Option Interval) → j ≤ length v.loops → x ≡ slice_index_or rests j x → IsRest v p (length v.loops - j) x
 
+-- the bounds of what the last common loops add together: of none, of one, and so on, up to all
+pub record AreAllBounds (v : View) (p : SubscriptPair) (bounds : List (Option Bounds)) : Type 0 where
+  pub as_many : length bounds ≡ length v.loops + 1
+  pub each : (j : ℕ) (x : Option Bounds) → j ≤ length v.loops → x ≡ slice_index_or bounds j x → MayBound v p (length v.loops - j) x
+
 -- what the loops add, up to which one some occur, and whether the GCD test excludes nothing
 pub record IsSight (v : View) (p : SubscriptPair) (s : Sight) : Type 0 where
   pub start : MaySum v p [] s.start
   pub parts : AreAllParts v.loops p.source.common p.sink.common s.parts.items
   pub rests : AreRests v p s.rests.items
+  pub bounds : AreAllBounds v p s.bounds.items
   pub deep : s.stage ≤ length v.loops
   pub done : IsTrue (is_done s.stage p)
   pub last : (m : ℕ) → m < s.stage → is_done m p ≡ false
@@ -60,6 +69,20 @@ pub record Shuts (v : View) (front : List Direction) (s : Sight) : Type 0 where
   pub there : slice_get v.positions s.position ≡ Some pair
   pub asked : IsTrue (is_asked pair (length front))
   pub shut : IsShut v pair s.stage front
+
+-- Banerjee's test excludes a vector over all common loops with the front
+abbrev pub SomeBeyond : View → SubscriptPair → List Direction → Type 0
+SomeBeyond v p front = (rest : List Direction) × (length rest + length front ≡ length v.loops) × IsBeyondExtremes v p (front ++ rest)
+
+-- the front has no direction of some loop that occurs, and the GCD test may exclude a vector, or Banerjee's test one with the front
+abbrev pub IsOpen : View → SubscriptPair → Sight → List Direction → Type 0
+IsOpen v p s front = (length front < s.stage) × (IsFalse s.is_solved ⊎ SomeBeyond v p front)
+
+-- the position of the sight leaves it open which vectors with the front it excludes
+pub record StaysOpen (v : View) (front : List Direction) (s : Sight) : Type 0 where
+  pub pair : SubscriptPair
+  pub there : slice_get v.positions s.position ≡ Some pair
+  pub undecided : IsOpen v pair s front
 
 -- the position of the sight excludes no vector with the front
 abbrev pub IsFree : View → Sight → List Direction → Type 0

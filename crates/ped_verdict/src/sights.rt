@@ -1,5 +1,5 @@
 //! What is found once of a position with subscripts in several indices, and whether it excludes all vectors with a
-//! front.
+//! front, or some.
 
 ghost use Rattle.std.specs.Prelude.{◌≡◌, ◌+◌, ◌≤◌, ◌<◌, ◌↔◌, ℕ, List, length, IfOk, IsTrue};
 ghost use Rattle.std.specs.Bool.{IsFalse};
@@ -8,12 +8,13 @@ ghost use Rattle.ped_views.specs.Excluded.{HasNoSolution};
 ghost use Rattle.ped_views.specs.Limits.{FitsLoops};
 ghost use Rattle.ped_miv.specs.Parts.{AreAllParts, IsSum, MaySum};
 ghost use Rattle.ped_verdict.specs.Fronts.{is_done, occurs_at};
-ghost use Rattle.ped_verdict.specs.Sights.{IsSight, IsShut, AreRests};
+ghost use Rattle.ped_verdict.specs.Sights.{IsSight, IsShut, SomeBeyond, IsOpen, AreRests, AreAllBounds};
 
 use crate::vectors::Vector;
 use ped_base::NoMemory;
 use ped_miv::{
-    LoopParts, gcd_excludes, loop_parts, no_rest, rest_from, sum_at_start, sum_with, sums_exclude,
+    Bounds, LoopParts, any_excluded, bounds_from, gcd_excludes, loop_parts, no_bounds, no_rest,
+    rest_from, sum_at_start, sum_with, sums_exclude,
 };
 use ped_views::{Direction, Interval, PairView, Position};
 use std::alloc::Global;
@@ -29,6 +30,8 @@ pub(crate) struct Sight {
     parts: Vec<LoopParts>,
     /// What the last common loops add together in any directions: of none, of one, and so on.
     rests: Vec<Option<Interval>>,
+    /// The bounds of what they add, over all directions.
+    bounds: Vec<Option<Bounds>>,
     /// How many common loops there are up to the last that occurs.
     pub(crate) stage: usize,
     /// Whether the GCD test is known to exclude no vector.
@@ -91,6 +94,63 @@ fn asks_gcd(sight: &Sight, front: &Vector) -> bool
     front.len() == sight.stage && !sight.is_solved
 }
 
+/// Whether a front leaves it open which of its vectors a position excludes: some loop that occurs has no direction yet,
+/// and the GCD test may exclude a vector, or Banerjee's test excludes one with the front.
+pub(crate) fn is_open(view: &PairView, pair: &Position, sight: &Sight, front: &Vector) -> bool
+    requires few { length view.now.loops ≤ 6 }
+    requires fits { FitsLoops
+        (length view.now.loops)
+        (length view.now.source_inner)
+        (length view.now.sink_inner)
+        pair.now }
+    requires sight { IsSight view.now pair.now sight.now }
+    ensures { IsTrue result ↔ IsOpen view.now pair.now sight.now front.now }
+{
+    if sight.stage <= front.len() {
+        return false;
+    }
+    if !sight.is_solved {
+        return true;
+    }
+    excludes_some(view, pair, sight, front)
+}
+
+/// Whether Banerjee's test excludes some vector with a front.
+fn excludes_some(view: &PairView, pair: &Position, sight: &Sight, front: &Vector) -> bool
+    requires few { length view.now.loops ≤ 6 }
+    requires fits { FitsLoops
+        (length view.now.loops)
+        (length view.now.source_inner)
+        (length view.now.sink_inner)
+        pair.now }
+    requires sight { IsSight view.now pair.now sight.now }
+    requires front { length front.now ≤ sight.now.stage }
+    ensures { IsTrue result ↔ SomeBeyond view.now pair.now front.now }
+{
+    match sum_under(view, pair, sight, front) {
+        None => true,
+        Some(sum) => excludes_some_by(view, pair, sight, front, sum),
+    }
+}
+
+/// The same by the sum of the front.
+fn excludes_some_by(
+    view: &PairView,
+    pair: &Position,
+    sight: &Sight,
+    front: &Vector,
+    sum: Interval,
+) -> bool
+    requires few { length view.now.loops ≤ 6 }
+    requires sight { IsSight view.now pair.now sight.now }
+    requires front { length front.now ≤ sight.now.stage }
+    requires sum { IsSum view.now pair.now front.now sum }
+    ensures { IsTrue result ↔ SomeBeyond view.now pair.now front.now }
+{
+    let bounds = sight.bounds[view.loops.len() - front.len()];
+    any_excluded(view, pair, front.directions(), sum, bounds)
+}
+
 /// The sum of a front: what is added at the start, and by each loop in its direction.
 fn sum_under(view: &PairView, pair: &Position, sight: &Sight, front: &Vector) -> Option<Interval>
     requires few { length view.now.loops ≤ 6 }
@@ -131,6 +191,7 @@ pub(crate) fn sight_of(
     let start = sum_at_start(view, pair);
     let parts = all_parts(alloc, view, pair)?;
     let rests = all_rests(alloc, view, pair, &parts)?;
+    let bounds = all_bounds(alloc, view, pair, &parts)?;
     let stage = stage(pair);
     let is_solved = is_solved(pair);
     Ok(Sight {
@@ -138,6 +199,7 @@ pub(crate) fn sight_of(
         start,
         parts,
         rests,
+        bounds,
         stage,
         is_solved,
     })
@@ -196,6 +258,37 @@ fn all_rests(
         rests.push(rest)?;
     }
     Ok(rests)
+}
+
+/// The bounds of what the last common loops add together: of none, of one, and so on.
+fn all_bounds(
+    alloc: Global,
+    view: &PairView,
+    position: &Position,
+    parts: &[LoopParts],
+) -> Result<Vec<Option<Bounds>>, NoMemory>
+    requires fits { FitsLoops
+        (length view.now.loops)
+        (length view.now.source_inner)
+        (length view.now.sink_inner)
+        position.now }
+    requires parts { AreAllParts
+        view.now.loops
+        position.now.source.common
+        position.now.sink.common
+        parts.now }
+    ensures { IfOk result (λ all. AreAllBounds view.now position.now all.items) }
+{
+    let loops = view.loops.len();
+    let mut all = Vec::with_capacity(alloc, loops + 1)?;
+    let mut bounds = no_bounds(view, position);
+    all.push(bounds)?;
+    for behind in 0..loops {
+        let place = loops - 1 - behind;
+        bounds = bounds_from(view, position, place, bounds, &parts[place]);
+        all.push(bounds)?;
+    }
+    Ok(all)
 }
 
 /// How many common loops there are up to the last that occurs in a position.

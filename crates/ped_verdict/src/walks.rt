@@ -4,10 +4,10 @@
 ghost use Rattle.std.specs.Prelude.{◌≡◌, ◌≤◌, ◌<◌, ◌^◌, ◌↔◌, All, Any, [], length, IsTrue};
 ghost use Rattle.ped_verdict.specs.Fronts as fronts;
 ghost use Rattle.ped_verdict.specs.Marked.{AreAdded};
-ghost use Rattle.ped_verdict.specs.Sights.{IsSightIn, AreSights, IsFree, Shuts, OtherExcludes};
+ghost use Rattle.ped_verdict.specs.Sights.{IsSightIn, AreSights, IsFree, Shuts, StaysOpen, OtherExcludes};
 
 use crate::fronts::mark_front;
-use crate::sights::{Sight, is_shut, occurs};
+use crate::sights::{Sight, is_open, is_shut, occurs};
 use crate::vectors::Vector;
 use ped_bits::Row;
 use ped_views::{Direction, PairView, Position};
@@ -25,44 +25,16 @@ pub(crate) fn exclude_others(view: &PairView, sights: &[Sight], excluded: &mut R
         excluded.old
         excluded.new }
 {
-    let stage = deepest(view, sights);
-    exclude_in(view, sights, stage, Vector::empty(), excluded);
+    exclude_in(view, sights, Vector::empty(), excluded);
 }
 
-/// How many common loops there are up to the last that occurs in any of these positions.
-fn deepest(view: &PairView, sights: &[Sight]) -> usize
-    requires { All (IsSightIn view.now) sights.now }
-    ensures within { result ≤ length view.now.loops }
-    ensures all { All (λ s. s.stage ≤ result) sights.now }
-    ensures least { ¬ (result ≡ 0) → Any (λ s. s.stage ≡ result) sights.now }
-{
-    let mut stage = 0;
-    for sight in sights {
-        stage = later(stage, sight);
-    }
-    stage
-}
-
-/// The greater of a number of loops and that of a position.
-fn later(stage: usize, sight: &Sight) -> usize
-    ensures more { stage < sight.now.stage → result ≡ sight.now.stage }
-    ensures same { sight.now.stage ≤ stage → result ≡ stage }
-{
-    if stage < sight.stage {
-        sight.stage
-    } else {
-        stage
-    }
-}
-
-/// Adds the excluded vectors that begin with this front, up to the last loop that occurs in any position. Those
-/// positions of which all loops that occur have their directions before the front's last exclude none.
-fn exclude_in(view: &PairView, sights: &[Sight], stage: usize, front: Vector, excluded: &mut Row)
+/// Adds the excluded vectors that begin with this front. It goes on to longer fronts only where some position leaves it
+/// open which of these vectors it excludes. Those positions of which all loops that occur have their directions before
+/// the front's last exclude none.
+fn exclude_in(view: &PairView, sights: &[Sight], front: Vector, excluded: &mut Row)
     requires few { length view.now.loops ≤ 6 }
     requires sights { AreSights view.now (length view.now.positions) sights.now }
-    requires deep { All (λ s. s.stage ≤ stage) sights.now }
-    requires within { stage ≤ length view.now.loops }
-    requires front { length front ≤ stage }
+    requires front { length front ≤ length view.now.loops }
     requires passed { All (λ s. s.stage < length front → IsFree view.now s front) sights.now }
     requires wide { length excluded.old ≡ 3 ^ length view.now.loops }
     ensures { AreAdded
@@ -74,14 +46,36 @@ fn exclude_in(view: &PairView, sights: &[Sight], stage: usize, front: Vector, ex
 {
     if any_shuts(view, sights, &front) {
         mark_front(view.loops.len(), &front, excluded);
-    } else if front.len() < stage {
+    } else if any_stays_open(view, sights, &front) {
         let longer = front.with(Direction::Before);
-        exclude_in(view, sights, stage, longer, excluded);
+        exclude_in(view, sights, longer, excluded);
         let longer = front.with(Direction::Same);
-        exclude_in(view, sights, stage, longer, excluded);
+        exclude_in(view, sights, longer, excluded);
         let longer = front.with(Direction::After);
-        exclude_in(view, sights, stage, longer, excluded);
+        exclude_in(view, sights, longer, excluded);
     }
+}
+
+/// Whether some position leaves it open which vectors with a front it excludes. The first that does so ends the search.
+fn any_stays_open(view: &PairView, sights: &[Sight], front: &Vector) -> bool
+    requires sights { All (IsSightIn view.now) sights.now }
+    ensures { IsTrue result ↔ Any (StaysOpen view.now front.now) sights.now }
+{
+    for sight in sights {
+        if stays_open(view, sight, front) {
+            return true;
+        }
+    }
+    false
+}
+
+/// Whether a position leaves it open which vectors with a front it excludes.
+fn stays_open(view: &PairView, sight: &Sight, front: &Vector) -> bool
+    requires { IsSightIn view.now sight.now }
+    ensures { IsTrue result ↔ StaysOpen view.now front.now sight.now }
+{
+    let pair = &view.positions[sight.position];
+    is_open(view, pair, sight, front)
 }
 
 /// Whether some position that is asked excludes a front. The first that does so ends the search.

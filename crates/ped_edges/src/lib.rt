@@ -5,6 +5,7 @@ mod digits;
 mod edges;
 mod lists;
 mod pane;
+mod places;
 mod products;
 mod rows;
 mod signs;

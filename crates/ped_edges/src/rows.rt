@@ -1,6 +1,6 @@
 //! The row of a dependence: source, sink, variable, kind, level, vectors, distances and mark.
 
-ghost use Rattle.std.specs.Prelude.{◌≡◌, ◌≤◌, ◌++◌, [], ◌∷◌, length, IfOk, OnOk};
+ghost use Rattle.std.specs.Prelude.{◌≡◌, ◌≤◌, ◌++◌, [], ◌∷◌, length, IfOk, IfSome, OnOk};
 ghost use Rattle.std.specs.Fmt.{signed_decimal};
 ghost use Rattle.ped_edges.specs.Rows as shown;
 ghost use Rattle.ped_edges.specs.CodeEdges.{edge_of, edge_shown, kind_of, mark_of, HasAtMostSixLoops};
@@ -9,6 +9,7 @@ ghost use Rattle.ped_refs.specs.Occurrences.{name_text};
 use crate::digits::push_digits;
 use crate::edges::{Edge, Kind, Mark, ShownEdge};
 use crate::lists::{Shown, push_list};
+use crate::places::push_place;
 use crate::vectors::push_vectors;
 use ped_base::{Bytes, NoMemory, push_signed};
 use ped_refs::RefName;
@@ -63,16 +64,6 @@ pub fn push_row(out: &mut Bytes, edge: &ShownEdge<'_>) -> Result<(), NoMemory>
     push_mark(out, edge.mark)
 }
 
-/// Adds a reference by its statement and its number there, and a blank.
-fn push_place(out: &mut Bytes, place: (u32, u32)) -> Result<(), NoMemory>
-    ensures { OnOk result (out.new ≡ out.old ++ (shown.place_text place ++ 32 ∷ [])) }
-{
-    push_digits(out, u64::from(place.0))?;
-    out.push(b'.')?;
-    push_digits(out, u64::from(place.1))?;
-    out.push(b' ')
-}
-
 fn push_name(out: &mut Bytes, name: &RefName) -> Result<(), NoMemory>
     ensures { OnOk result (out.new ≡ out.old ++ name_text name.now) }
 {
@@ -116,10 +107,39 @@ pub fn push_level(out: &mut Bytes, level: Option<u8>) -> Result<(), NoMemory>
     }
 }
 
+/// Adds the distances. Those of two loops are added at once where each has one character.
 fn push_distances(out: &mut Bytes, distances: &[Option<i128>]) -> Result<(), NoMemory>
     ensures { OnOk result (out.new ≡ out.old ++ shown.distances_text distances.now) }
 {
+    if let [outer, inner] = distances {
+        if let (Some(first), Some(second)) = (character(*outer), character(*inner)) {
+            return out.extend_from_slice(&[b'(', first, b',', second, b')']);
+        }
+    }
     push_list(out, distances)
+}
+
+/// The text of a distance, where it is one character.
+fn character(distance: Option<i128>) -> Option<u8>
+    ensures { IfSome result (λ c. shown.distance_text distance ≡ c ∷ []) }
+{
+    match distance {
+        Some(distance) => digit(distance),
+        None => Some(b'*'),
+    }
+}
+
+/// The text of a distance that is known, where it is 0 or 1.
+fn digit(distance: i128) -> Option<u8>
+    ensures { IfSome result (λ c. signed_decimal distance ≡ c ∷ []) }
+{
+    if distance == 0 {
+        return Some(b'0');
+    }
+    if distance == 1 {
+        return Some(b'1');
+    }
+    None
 }
 
 impl Shown for Option<i128> {

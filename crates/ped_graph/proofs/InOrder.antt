@@ -1,4 +1,4 @@
--- The keys of pairs ascend, so that a search finds the one pair with a key.
+-- The keys of pairs ascend, so that a search finds the one pair with a key. Each pair has a view.
 use Rattle.std.proofs.Common.{◌≡◌, ◌⊎◌, inl, inr, ℕ, ◌<◌, ◌≤◌, ◌+◌, List, map, length, Some, ap, sym, ◌∙◌, subst, arith}
 use Rattle.std.specs.Prelude.{slice_get, slice_index_or}
 use Rattle.std.proofs.lemmas.Option.{slice_get_within, get_or_from_slice_get}
@@ -6,10 +6,10 @@ use Rattle.ped_tree.specs.Tree.{ProgramTree}
 use Rattle.ped_refs.specs.References.{references, pairs}
 use Rattle.ped_refs.specs.TextPlaces.{IsBefore, Key, IsKeyBefore}
 use Rattle.ped_refs.proofs.Ascending.{PairPrecedes, ascending_pairs, ascending_mapped, pairs_ascend}
-use Rattle.ped_graph.specs.Dependences.{facts_of}
-use Rattle.ped_graph.specs.Held.{Framed, framed, frame_of}
+use Rattle.ped_graph.specs.Dependences.{facts_of, view_of}
+use Rattle.ped_graph.specs.Held.{Framed, Held, framed, frame_of, held_of}
 use Rattle.ped_graph.specs.Keys.{key_of, AreInOrder, IsOnlyAt}
-use Rattle.ped_graph.proofs.Slices.{some_is, get_there, mapped_there, mapped_at}
+use Rattle.ped_graph.proofs.Slices.{some_is, get_there, length_mapped, mapped_there, mapped_at}
 
 -- the pairs of a program are in order
 pub frame_in_order : (t : ProgramTree) → AreInOrder (frame_of t).pairs
@@ -114,3 +114,9 @@ module _ {X : Type 0} (f : X → Framed) (xs : List X) (order : AreInOrder (map 
           behind place (key_of (f x)) (mapped_at (λ w. key_of (f w)) xs place x there) (omega arith)
           (subst (λ (a : Key). IsKeyBefore (key_of (f x)) a) is (lesser_before (map f xs) order place n (f x) (f z) (mapped_at f xs place x there) (mapped_at f xs n z at) h))
       go z at is (inr (inr h)) = not_there z (ap (λ (i : ℕ). slice_get xs i) (sym h) ∙ at) is
+
+-- a program has as many views as pairs
+pub paired_views : (t : ProgramTree) (h : Held) → h ≡ held_of t → length h.views ≡ length h.frame.pairs
+paired_views t h is =
+    ap (λ (k : Held). length k.views) is ∙ length_mapped (λ p. view_of t p.0 p.1) (pairs (references t))
+    ∙ sym (length_mapped (λ p. framed (facts_of t) p.0 p.1) (pairs (references t))) ∙ sym (ap (λ (k : Held). length k.frame.pairs) is)

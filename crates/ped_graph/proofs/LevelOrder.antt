@@ -188,6 +188,10 @@ none_behind level (v ∷ vs) h =
     cond-false (is_of level (carriage_from 1 v)) (v ∷ vectors_of level vs) (vectors_of level vs) (not_of level (carriage_from 1 v) h.0)
     ∙ none_behind level vs (come_earlier 1 (carriage_behind level) (carriage_from 1 v) vs h.0 h.1)
 
+-- no vector is of a level behind which the first one is
+pub none_of : (level : Option ℕ) (v : List Direction) (vs : List (List Direction)) → MayPrecede (carriage_behind level) (carriage_from 1 v) → ComeByLevel (carried 1) (v ∷ vs) → vectors_of level (v ∷ vs) ≡ []
+none_of level v vs m h = none_behind level (v ∷ vs) (m, h.1)
+
 -- the vectors of a level that comes first are those at the front, and the others are left
 pub record Splits (level : Option ℕ) (vectors : List (List Direction)) (count : ℕ) : Type 0 where
   pub these : take count vectors ≡ vectors_of level vectors

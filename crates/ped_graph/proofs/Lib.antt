@@ -3,23 +3,18 @@ mod Exchanging
 mod FormLengths
 mod HeldEdges
 mod EdgesAsked
-mod InOrder
-mod Known
+pub mod InOrder
+pub mod Known
 mod LevelEdges
 mod LevelOrder
-mod Matched
-mod Matching
-mod OneMore
 pub mod OnePane
-mod Places
+pub mod Places
 mod PrintedRows
 mod Selecting
 mod SideLaws
 mod KnownSides
 mod NamedUnknowns
 mod NumberedStatements
-mod Slices
+pub mod Slices
 mod Standing
 mod ToldViews
-mod Updated
-mod Yielded

@@ -6,6 +6,7 @@ use Rattle.std.specs.Ordering.{int_eq}
 use Rattle.std.specs.Cmp.Lexicographic.{pointwise}
 use Rattle.std.specs.Bool.{Decides, beq}
 use Rattle.std.specs.Cmp.{booleans_Decides}
+use Rattle.std.proofs.lemmas.Bool.{eq-eqb}
 use Rattle.std.proofs.lemmas.Bool.Decides.{Decides-int_eq, Decides-and, Decides-like}
 use Rattle.std.proofs.lemmas.List.{length-drop, drop_all, take_all, take-append-le, drop-append-le}
 use Rattle.ped_base.specs.Lists.{is_among}
@@ -21,7 +22,7 @@ use Rattle.ped_graph.specs.Sides.{is_alone, IsSide, IsLike, IsOwnRow, IsOwnPosit
 use Rattle.ped_graph.specs.declared.sides.Side.{Side}
 use Rattle.ped_graph.proofs.FormLengths.{form_many}
 use Rattle.ped_graph.proofs.NamedUnknowns.{zeros, padded, affine_padded}
-use Rattle.ped_graph.proofs.Matching.{both_hold, same_number}
+use Rattle.ped_graph.proofs.Slices.{both_hold}
 
 -- the derived test on ranges
 pub range_decided : (a b : Range) → Decides (int_eq a.lo b.lo && (int_eq a.hi b.hi && (int_eq a.step b.step && beq a.steady b.steady))) (a ≡ b)
@@ -91,7 +92,7 @@ others_named s a b e g h k =
 -- all loops of a nest are common with itself
 common_itself : (ls : List Loop) → common_nest ls ls ≡ ls
 common_itself [] = refl
-common_itself (l ∷ ls) = ap (λ (t : Bool). if t then l ∷ common_nest ls ls else []) (same_number l.number) ∙ ap (λ (ms : List Loop). l ∷ ms) (common_itself ls)
+common_itself (l ∷ ls) = ap (λ (t : Bool). if t then l ∷ common_nest ls ls else []) (eq-eqb l.number l.number refl) ∙ ap (λ (ms : List Loop). l ∷ ms) (common_itself ls)
 
 length-mapped : {X Y : Type 0} (f : X → Y) (xs : List X) → length (map f xs) ≡ length xs
 length-mapped f [] = refl

@@ -1,5 +1,5 @@
--- Items at places of lists.
-use Rattle.std.proofs.Common.{◌≡◌, ℕ, zero, suc, ◌<◌, ◌≤◌, List, [], ◌∷◌, ◌++◌, length, map, take, drop, Some, None, refl, ap, sym, ◌∙◌, subst, arith}
+-- Items at places of lists, and two tests that hold.
+use Rattle.std.proofs.Common.{◌≡◌, ℕ, zero, suc, ◌<◌, ◌≤◌, List, [], ◌∷◌, ◌++◌, length, map, take, drop, Bool, true, false, ◌&&◌, Some, None, refl, ap, sym, ◌∙◌, subst, arith}
 use Rattle.std.specs.Prelude.{◌≢◌, slice_get, slice_set, slice_index_or, AllPairs}
 use Rattle.std.specs.List.{AllByRecursion}
 use Rattle.ped_refs.proofs.Ascending.{Ascending}
@@ -143,3 +143,8 @@ all_front (x ∷ xs) rest = ap (λ ys. x ∷ ys) (all_front xs rest)
 -- the front of joined lists
 pub front_is : {X : Type 0} (n : ℕ) (xs rest : List X) → n ≡ length xs → take n (xs ++ rest) ≡ xs
 front_is n xs rest e = ap (λ m. take m (xs ++ rest)) e ∙ all_front xs rest
+
+-- both tests hold
+pub both_hold : (a b : Bool) → (a && b) ≡ true → (a ≡ true) × (b ≡ true)
+both_hold true b e = (refl, e)
+both_hold false b e = cc

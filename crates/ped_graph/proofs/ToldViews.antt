@@ -5,8 +5,7 @@ use Rattle.std.proofs.lemmas.List.{append-nil, drop_all}
 use Rattle.ped_views.specs.Views.{Range, SubscriptPair}
 use Rattle.ped_views.specs.Limits.{FitsLoops, IsView}
 use Rattle.ped_graph.specs.Sides.{is_usable, IsOwnPosition, AreOwnPositions}
-use Rattle.ped_graph.proofs.Matching.{both_hold}
-use Rattle.ped_graph.proofs.Slices.{some_is}
+use Rattle.ped_graph.proofs.Slices.{both_hold, some_is}
 
 -- the parts of a view fit together
 pub fits_view : (loops source sink : List Range) (positions : List SubscriptPair) (k a b : ℕ) → length loops ≡ k → length source ≡ a → length sink ≡ b → k + a ≤ 6 → k + b ≤ 6 → All (FitsLoops k a b) positions →

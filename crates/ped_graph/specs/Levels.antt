@@ -1,5 +1,5 @@
 -- The order of direction vectors by the loop that carries them. Only contracts of private functions use these definitions (this project).
-use Rattle.std.specs.Prelude.{◌≡◌, ℕ, ◌+◌, ◌≤◌, List, [], ◌∷◌, Option, Some, None, ⊤}
+use Rattle.std.specs.Prelude.{◌≡◌, ℕ, ◌+◌, ◌≤◌, List, [], ◌∷◌, Option, Some, None, Bool, true, false, ⊤}
 use Rattle.ped_views.specs.declared.directions.Direction.{Direction}
 use Rattle.ped_edges.specs.Edges.{Edge}
 use Rattle.ped_graph.specs.Marks.{mark_by}
@@ -37,6 +37,12 @@ carriage_at None = independent
 abbrev pub carriage_behind : Option ℕ → Carriage
 carriage_behind (Some level) = carried (level + 1)
 carriage_behind None = backward
+
+-- from the source to the sink: carried by a loop, or independent of loops where the source comes first (Allen and Kennedy, section 2.2.5)
+abbrev pub leads_on : Bool → Carriage → Bool
+leads_on is_forward (carried k) = true
+leads_on is_forward independent = is_forward
+leads_on is_forward backward = false
 
 -- no loop further in than this level carries
 abbrev pub IsUpTo : ℕ → Carriage → Type 0

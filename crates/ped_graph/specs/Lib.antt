@@ -10,6 +10,7 @@ pub mod Guards
 pub mod Held
 pub mod HeldPairs
 pub mod HeldSelections
+pub mod Keeping
 pub mod Keys
 pub mod KnownProgram
 pub mod Levels
@@ -17,4 +18,3 @@ pub mod Marks
 pub mod Owners
 pub mod Parts
 pub mod Sides
-pub mod Update

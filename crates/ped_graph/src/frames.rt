@@ -85,7 +85,7 @@ impl Frame {
     }
 
     /// The same, which is quick where the pair is the one that is expected there.
-    pub(crate) fn place_near(&self, key: &PairKey, expected: u64) -> Option<u64>
+    pub fn place_near(&self, key: &PairKey, expected: u64) -> Option<u64>
         ensures { MatchOption result ((n : ℕ) → slice_get (map key_of self.now.pairs) n ≡ Some (key_shown key.now) → ⊥)
             (λ n. IsOnlyAt (map key_of self.now.pairs) (key_shown key.now) n) }
     {

@@ -1,17 +1,18 @@
 //! The vectors of a pair by the loop that carries them. Vectors come in this order, so those of a level stand side by side.
 
-ghost use Rattle.std.specs.Prelude.{◌≡◌, ◌+◌, ◌≤◌, ◌++◌, length, map};
+ghost use Rattle.std.specs.Prelude.{◌≡◌, ◌+◌, ◌≤◌, ◌++◌, ℕ, [], false, length, map};
 ghost use Rattle.std.specs.List.{prefix_len};
 ghost use Rattle.arrayvec.specs.ArrayVec.{array_vec_len};
 ghost use Rattle.ped_graph.specs.Dependences as Spec;
 ghost use Rattle.ped_graph.specs.Dependences.{carried};
 ghost use Rattle.ped_graph.specs.Held as Held;
 ghost use Rattle.ped_graph.specs.HeldPairs.{held_carried};
-ghost use Rattle.ped_graph.specs.Levels.{ComeByLevel, AreByLevel, AreLeft, carriage_at, carriage_behind, edge_by};
+ghost use Rattle.ped_graph.specs.Levels.{ComeByLevel, AreByLevel, AreLeft, carriage_at, carriage_behind, edge_by, leads_on};
 
 use crate::edges::is_of;
 use arrayvec::ArrayVec;
 use ped_verdict::Vector;
+use ped_views::Direction;
 
 /// The vectors of a level that has any.
 #[derive(Clone, Copy)]
@@ -33,6 +34,33 @@ impl Default for LevelVectors<'_> {
 
 /// The levels of a pair that have vectors: at most six loops, and what is independent of them.
 pub type Levels<'a> = ArrayVec<LevelVectors<'a>, 7>;
+
+/// Whether a level has vectors, of a pair whose source comes first in text order or not. The first vector tells it:
+/// none has where that leads from the sink to the source.
+pub fn has_levels(is_forward: bool, vectors: &[Vector]) -> bool
+    ensures { result ≡ false → (loops : ℕ) → AreByLevel loops vectors.now
+        → (p : Held.Pair) → p.is_forward ≡ is_forward → Held.held_divided p vectors.now ≡ [] }
+{
+    match vectors.split_first() {
+        Some((first, _)) => leads_on(is_forward, first.directions()),
+        None => false,
+    }
+}
+
+/// Whether a vector leads from the source to the sink: its first direction other than `=` is `<`, or it has none and
+/// the source comes first in text order.
+fn leads_on(is_forward: bool, directions: &[Direction]) -> bool
+    ensures { result ≡ leads_on is_forward (Spec.carriage_from 1 directions.now) }
+{
+    for direction in directions {
+        match direction {
+            Direction::Before => return true,
+            Direction::After => return false,
+            Direction::Same => {}
+        }
+    }
+    is_forward
+}
 
 /// The levels that have vectors, of a pair with this many common loops, whose source comes first in text order or not.
 pub fn levels_of<'a>(is_forward: bool, loops: u8, vectors: &'a [Vector]) -> Levels<'a>

@@ -3,32 +3,33 @@
 #![tactic(auto)]
 
 mod edges;
-mod extents;
+pub mod extents;
 mod facts;
 mod firmness;
 mod frames;
 mod graph;
 mod guards;
+mod keeping;
 mod laws;
 mod levels;
 mod names;
-mod numbered;
-mod own_facts;
+pub mod numbered;
+pub mod own_facts;
 mod owners;
 mod parts;
-mod preparing;
+pub mod preparing;
 mod printing;
 mod rejections;
-mod rounds;
+pub mod rounds;
 mod selections;
-mod sides;
+pub mod sides;
 mod telling;
-mod testing;
+pub mod testing;
 mod told;
-pub mod update;
 
 pub use frames::{Frame, PairKey};
 pub use graph::{Graph, Prepared, prepare};
+pub use keeping::Keep;
 pub use laws::{one_dependence_pane, one_dependence_pane_of};
 pub use parts::{Kept, Parts, Slot};
 pub use ped_symbols::{Kind, NameRefusal, Symbols, symbols_of};

@@ -91,7 +91,7 @@ impl<L: Ledger> Parts<L> {
     ghost use Rattle.std.specs.Prelude.{[]};
 
     /// This frame, without a place for a verdict yet. It takes no memory.
-    pub(crate) fn new(alloc: Global, frame: Frame) -> Parts<L>
+    pub fn new(alloc: Global, frame: Frame) -> Parts<L>
         ensures { result ≡ record { frame = frame; slots = []; kept = [] } }
     {
         Parts {

@@ -17,6 +17,7 @@ ghost use Rattle.ped_graph.specs.CodeFacts.{framed_of};
 ghost use Rattle.ped_graph.specs.KnownProgram.{own_of, IsKnown, IsRound, AreSides};
 
 use crate::facts::{Facts, push_facts};
+use crate::frames::Frame;
 use crate::numbered::numbered_statements;
 use crate::own_facts::{OwnFacts, all_own_facts};
 use crate::rounds::{assigned_by, have_same_outermost, outermost};
@@ -102,8 +103,26 @@ fn pairs_of(alloc: Global, known: &Known, listed: &[Pair]) -> Result<Pairs, NoMe
     Ok(Pairs { facts, views })
 }
 
+/// What is known of the program without a test, where these are all its pairs, and these the numbers of statements in
+/// each of its statements.
+pub fn frame_by(
+    alloc: Global,
+    known: &Known,
+    listed: &[Pair],
+    extents: Vec<u32>,
+) -> Result<Frame, NoMemory>
+    requires known { IsKnown known.now }
+    requires within { All (IsWithin (length known.now.found.now)) listed.now }
+    requires listed { map (pair_at (references_of known.now.found.now)) listed.now ≡ map Some (pairs (references (program_tree known.now.program.now))) }
+    requires extents { extents.items ≡ (frame_of (program_tree known.now.program.now)).extents }
+    ensures { IfOk result (λ frame. frame ≡ frame_of (program_tree known.now.program.now)) }
+{
+    let pairs = facts_of_pairs(alloc, known, listed)?;
+    Ok(Frame { pairs, extents })
+}
+
 /// What is known of these pairs, which are all pairs of the program, without a test.
-pub fn facts_of_pairs(alloc: Global, known: &Known, listed: &[Pair]) -> Result<Vec<Facts>, NoMemory>
+fn facts_of_pairs(alloc: Global, known: &Known, listed: &[Pair]) -> Result<Vec<Facts>, NoMemory>
     requires known { IsKnown known.now }
     requires within { All (IsWithin (length known.now.found.now)) listed.now }
     requires listed { map (pair_at (references_of known.now.found.now)) listed.now ≡ map Some (pairs (references (program_tree known.now.program.now))) }

@@ -14,7 +14,7 @@ use crate::edges::{
     SeenPair, distances_of, is_proven, loop_count, mark_of, shared_vectors, verdict_at,
 };
 use crate::facts::Facts;
-use crate::levels::{LevelVectors, levels_of};
+use crate::levels::{LevelVectors, has_levels, levels_of};
 use crate::parts::Slot;
 use ped_base::{Bytes, NoMemory, push_number};
 use ped_edges::{ShownEdge, push_row};
@@ -74,6 +74,9 @@ fn push_seen(
         × (added ≡ length (held_edges (pair_seen pair.now) vectors.items))) }
 {
     let shared = shared_vectors(alloc, pair.facts.owner, vectors);
+    if !has_levels(pair.facts.is_forward, &shared) {
+        return Ok(0);
+    }
     let levels = levels_of(pair.facts.is_forward, loops, &shared);
     push_levels(rows, pair, &levels)
 }

@@ -1,7 +1,7 @@
 //! Views made from what is known of both references of a pair. So a subscript is examined once per reference, not once
 //! per pair.
 
-ghost use Rattle.std.specs.Prelude.{◌≡◌, ◌-◌, ◌≤◌, ◌<◌, ◌⊎◌, ℕ, Some, All, take, drop, length, slice_get, IfOk, IfSome, IsTrue};
+ghost use Rattle.std.specs.Prelude.{◌≡◌, ◌-◌, ◌≤◌, ◌<◌, ◌⊎◌, ◌++◌, ◌∷◌, [], ℕ, Some, All, take, drop, length, slice_get, IfOk, IfSome, OnOk, IsTrue};
 ghost use Rattle.std.specs.List.{list_all};
 ghost use Rattle.ped_views.specs.Views.{SubscriptPair};
 ghost use Rattle.ped_views.specs.Limits.{FitsLoops};
@@ -10,6 +10,7 @@ ghost use Rattle.ped_affine.specs.Ranges.{Setting as PlainSetting};
 ghost use Rattle.ped_graph.specs.Sides.{is_usable, IsOwnRow, IsOwnPosition, AreOwnPositions, IsPlain, IsSide};
 
 use crate::sides::{Side, common_depth};
+use arrayvec::ArrayVec;
 use ped_base::NoMemory;
 use ped_views::{AffRow, LoopRange, PairView, Position, coefficients};
 use std::alloc::Global;
@@ -104,9 +105,34 @@ fn positions(
     let count = shorter(position_count(source), position_count(sink));
     let mut found = Vec::with_capacity(alloc, count)?;
     for i in 0..count {
-        found.push(position(common, source, sink, i))?;
+        push_position(&mut found, common, source, sink, i)?;
     }
     Ok(found)
+}
+
+/// Adds the position at a place, of two subscripts that are affine forms. Most are over two loops, all of them common.
+fn push_position(
+    found: &mut Vec<Position>,
+    common: usize,
+    source: &PairView,
+    sink: &PairView,
+    place: usize,
+) -> Result<(), NoMemory>
+    requires source { common ≤ length source.now.loops }
+    requires sink { common ≤ length sink.now.loops }
+    requires in_source { place < length source.now.positions }
+    requires in_sink { place < length sink.now.positions }
+    ensures { OnOk result ((p : SubscriptPair) × (found.new.items ≡ found.old.items ++ p ∷ [])
+        × FitsLoops common (length source.now.loops - common) (length sink.now.loops - common) p
+        × ((a b : SubscriptPair) → slice_get source.now.positions place ≡ Some a → slice_get sink.now.positions place ≡ Some b
+        → IsTrue a.usable → IsTrue b.usable → IsOwnPosition common a b p)) }
+{
+    if common == 2 && source.loops.len() == 2 && sink.loops.len() == 2 {
+        found.push(position_over_two(source, sink, place))?;
+        return Ok(());
+    }
+    found.push(position(common, source, sink, place))?;
+    Ok(())
 }
 
 /// How many positions a view has.
@@ -145,6 +171,24 @@ fn position(common: usize, source: &PairView, sink: &PairView, place: usize) -> 
     }
 }
 
+/// The position at a place, of two subscripts that are affine forms over two loops, both of them common.
+#[inline]
+fn position_over_two(source: &PairView, sink: &PairView, place: usize) -> Position
+    requires source { length source.now.loops ≡ 2 }
+    requires sink { length sink.now.loops ≡ 2 }
+    requires in_source { place < length source.now.positions }
+    requires in_sink { place < length sink.now.positions }
+    ensures fits { FitsLoops 2 0 0 result }
+    ensures told { (a b : SubscriptPair) → slice_get source.now.positions place ≡ Some a → slice_get sink.now.positions place ≡ Some b
+        → IsTrue a.usable → IsTrue b.usable → IsOwnPosition 2 a b result }
+{
+    Position {
+        usable: true,
+        source: row_over_two(own_row(source, place)),
+        sink: row_over_two(own_row(sink, place)),
+    }
+}
+
 /// The subscript at a place of a reference that is paired with itself.
 fn own_row(view: &PairView, place: usize) -> &AffRow
     requires { place < length view.now.positions }
@@ -162,6 +206,22 @@ fn divided(common: usize, row: &AffRow) -> AffRow
     AffRow {
         common: coefficients(&row.common[..common]),
         inner: coefficients(&row.common[common..]),
+        constant: row.constant,
+    }
+}
+
+/// A row over two loops, both of them common.
+#[inline]
+fn row_over_two(row: &AffRow) -> AffRow
+    requires { length row.now.common ≡ 2 }
+    ensures { IsOwnRow 2 row.now result }
+{
+    let mut common = ArrayVec::new();
+    common.push(row.common[0]);
+    common.push(row.common[1]);
+    AffRow {
+        common,
+        inner: ArrayVec::new(),
         constant: row.constant,
     }
 }

@@ -14,15 +14,16 @@ loop-i-preserved c =
     let ps = c.args.source.now.positions in
     let qs = c.args.sink.now.positions in
     let i = c.loop-i.i in
-    let p = c.position.result in
+    let added = c.in_ok-push_position.ensures in
+    let p = added.0 in
     let below : i < length ps = search rules in
     let within : i < length qs = search rules in
     let left = get_there ps i p below in
     let right = get_there qs i p within in
     record {
-      fit = subst (All (FitsLoops k n m)) (sym c.in_ok-push.ensures.items) (All-push (FitsLoops k n m) c.loop-i.found.items p c.loop-i.invariant.fit c.position.ensures.fits);
-      told = λ first second. subst (λ (xs : List SubscriptPair). AreToldAhead k (i + 1) ps qs xs) (sym c.in_ok-push.ensures.items)
-          (told_more k i ps qs c.loop-i.found.items _ _ p left right (c.position.ensures.told _ _ left right (one_usable ps i _ first left) (one_usable qs i _ second right)) (c.loop-i.invariant.told first second));
+      fit = subst (All (FitsLoops k n m)) (sym added.1) (All-push (FitsLoops k n m) c.loop-i.found.items p c.loop-i.invariant.fit added.2);
+      told = λ first second. subst (λ (xs : List SubscriptPair). AreToldAhead k (i + 1) ps qs xs) (sym added.1)
+          (told_more k i ps qs c.loop-i.found.items _ _ p left right (added.3 _ _ left right (one_usable ps i _ first left) (one_usable qs i _ second right)) (c.loop-i.invariant.told first second));
     }
 
 pub returns-clause-told : goal.returns-clause-told

@@ -3,7 +3,7 @@ use Rattle.ped_tree.specs.Views.{program_tree}
 use Rattle.ped_graph.specs.CodeFacts.{views_in}
 use Rattle.ped_graph.proofs.Slices.{length_mapped}
 use Rattle.ped_graph.proofs.Exchanging.{are_whole, views_there}
-use Rattle.ped_graph.proofs.Updated.{paired_views}
+use Rattle.ped_graph.proofs.InOrder.{paired_views}
 use Rattle.ped_graph.proofs.graph.Graph.build.Goals as goal
 
 pub invariant_of-result : goal.invariant_of-result

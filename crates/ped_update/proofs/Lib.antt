@@ -1,0 +1,5 @@
+mod Matched
+mod OneMore
+mod Origins
+mod Updated
+mod Yielded

@@ -1,5 +1,5 @@
 -- Notes behind evaluations, one after the other.
-use Rattle.std.proofs.Common.{◌≡◌, ℕ, suc, ◌+◌, ◌<◌, ◌≤◌, ℤ, length, drop, get_or, List, [], ◌∷◌, ◌++◌, Bool, true, false, not, map, refl, sym, ap, subst, ◌∙◌, append_assoc, arith, if◌then◌else◌, Ok, Err, Option, Some, None}
+use Rattle.std.proofs.Common.{◌≡◌, ℕ, suc, ◌+◌, ◌<◌, ◌≤◌, ℤ, length, drop, get_or, List, [], ◌∷◌, ◌++◌, Bool, true, false, true≢false, not, map, refl, sym, ap, subst, ◌∙◌, append_assoc, arith, if◌then◌else◌, Ok, Err, Option, Some, None}
 use Rattle.std.specs.Prelude.{Result, filter}
 use Rattle.std.proofs.lemmas.List.{append-nil, map-append}
 use Rattle.std.proofs.lemmas.List.Elements.{filter-append}
@@ -51,6 +51,14 @@ number_behind-append n (index_seen c v ∷ a) b = number_behind-append n a b
 -- nothing is read
 pub none_noted : (a : Notes) → HasNoted a [] a
 none_noted a q = record { kept = q; touches = sym (append-nil (noted_by a)); next = refl }
+
+-- notes that nobody keeps before an evaluation are kept by nobody after it
+pub still_unkept : (a b : Notes) (x : List Seen) → a.kept ≡ false → HasNoted a x b → b.kept ≡ false
+still_unkept a b x h seen = go b.kept refl
+  where
+    go : (k : Bool) → b.kept ≡ k → b.kept ≡ false
+    go true e = absurd (true≢false (sym (seen e).kept ∙ h))
+    go false e = e
 
 -- one evaluation behind another
 pub both_noted : (a b c : Notes) (x y : List Seen) → HasNoted a x b → HasNoted b y c → HasNoted a (x ++ y) c

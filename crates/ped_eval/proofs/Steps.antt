@@ -328,6 +328,16 @@ module _ (around : Surroundings) where
   unfolding value_at
   var_variable x h = ap (λ (o : Option ℤ). (name_value o (names_at (memory_of around.store.now) around.scope.now around.consts.now) x (memory_of around.store.now).cells).result) (sym h)
 
+  -- an operation on values that are known
+  pub sum_known : (a b : ExprTree) (u v w : ℤ) → value_at around a ≡ Ok u → value_at around b ≡ Ok v → sum_of u v ≡ Ok w → value_at around (Add a b) ≡ Ok w
+  sum_known a b u v w h k r = add_at around a b ∙ (λ i. of_two (λ u v. by_number (sum_of u v)) (h i) (k i)) ∙ ap by_number r
+
+  pub difference_known : (a b : ExprTree) (u v w : ℤ) → value_at around a ≡ Ok u → value_at around b ≡ Ok v → difference_of u v ≡ Ok w → value_at around (Sub a b) ≡ Ok w
+  difference_known a b u v w h k r = sub_at around a b ∙ (λ i. of_two (λ u v. by_number (difference_of u v)) (h i) (k i)) ∙ ap by_number r
+
+  pub product_known : (a b : ExprTree) (u v w : ℤ) → value_at around a ≡ Ok u → value_at around b ≡ Ok v → product_of u v ≡ Ok w → value_at around (Mul a b) ≡ Ok w
+  product_known a b u v w h k r = mul_at around a b ∙ (λ i. of_two (λ u v. by_number (product_of u v)) (h i) (k i)) ∙ ap by_number r
+
 pub front_none : (r : Result (List ℤ) ℕ) → r ≡ with_front [] r
 front_none (Ok us) = refl
 front_none (Err n) = refl

@@ -17,6 +17,7 @@ ghost use Rattle.ped_eval.specs.Scopes as Scopes;
 ghost use Rattle.ped_eval.specs.Targets.{bounded, IsNamedBy};
 
 use crate::named::constant_named;
+use crate::narrow::{next_side, whole_value};
 use crate::notes::Notes;
 use crate::operations::{
     Valued, absolute, added, both, denied, divided, either, multiplied, negative, raised, related,
@@ -89,7 +90,7 @@ fn next_value(first: &Valued, e: &Expr, around: &Surroundings, notes: &mut Notes
 /// entered.
 #[cycle(value_of)]
 #[inline(always)]
-pub(crate) fn operand_value(e: &Expr, around: &Surroundings, notes: &mut Notes) -> Valued
+fn operand_value(e: &Expr, around: &Surroundings, notes: &mut Notes) -> Valued
     ensures value { result ≡ value_at around.now (expr_tree e.now) }
     ensures noted { HasNoted notes.old (seen_at around.now (expr_tree e.now)) notes.new }
 {
@@ -264,7 +265,7 @@ fn element_by_more(
 /// The value of an element with any number of subscripts, of which no notes are kept.
 #[cycle(value_of)]
 #[inline(never)]
-fn element_by_many(
+pub(crate) fn element_by_many(
     name: &Name,
     indices: &[Expr],
     around: &Surroundings,
@@ -557,8 +558,8 @@ pub fn truth_of(
 {
     match condition {
         Cond::Rel(relation, a, b) => {
-            let left = operand_value(a, around, notes);
-            let right = next_value(&left, b, around, notes);
+            let left = whole_value(a, around, notes);
+            let right = next_side(&left, b, around, notes);
             return related(relation, left, right);
         }
         Cond::Not(a) => return denied(truth_of(a, around, notes)),

@@ -10,6 +10,7 @@ mod exits;
 mod inner_names;
 mod live;
 mod named;
+mod narrow;
 mod notes;
 mod operations;
 mod outcomes;

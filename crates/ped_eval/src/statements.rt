@@ -24,8 +24,9 @@ ghost use Rattle.ped_eval.specs.StatementNotes.{assignment_noted};
 ghost use Rattle.ped_eval.specs.Watched.{Watched, turns_run};
 ghost use Rattle.ped_eval.specs.Told.{Ran, TellsFrom, StaysReady, OnGoing, OnStopped};
 
-use crate::evaluation::{first_places, operand_value, ranked_places, target_cell, value_of};
+use crate::evaluation::{first_places, ranked_places, target_cell, value_of};
 use crate::exits::leave_loop;
+use crate::narrow::{unnoted_value, whole_value};
 use crate::notes::Notes;
 use crate::plans::{Plan, plan_of};
 use crate::printing::watched_print;
@@ -275,7 +276,7 @@ fn assign_scalar(
         scope: &state.scope,
         consts: symbols.consts(),
     };
-    match value_of(right, &around, notes) {
+    match unnoted_value(right, &around, notes) {
         Ok(value) => return state.store.set_scalar(name, &value),
         Err(fault) => return Err(fault),
     }
@@ -343,8 +344,8 @@ fn assign_element(
         scope: &state.scope,
         consts: symbols.consts(),
     };
-    match value_of(right, &around, notes) {
-        Ok(value) => match operand_value(index, &around, notes) {
+    match unnoted_value(right, &around, notes) {
+        Ok(value) => match whole_value(index, &around, notes) {
             Ok(place) => return state.store.set_element(name, &[place], &value),
             Err(fault) => return Err(fault),
         },
@@ -376,7 +377,7 @@ fn assign_by_more(
         scope: &state.scope,
         consts: symbols.consts(),
     };
-    match value_of(right, &around, notes) {
+    match unnoted_value(right, &around, notes) {
         Ok(value) => match ranked_places(indices, &around, notes) {
             Ok(places) => return state
                 .store

@@ -13,8 +13,8 @@ use Rattle.ped_eval.proofs.evaluation.+truth_of.Goals as goal
 
 pub truth_of-returns-in-Rel-clause-truth : goal.truth_of-returns-in-Rel-clause-truth
 truth_of-returns-in-Rel-clause-truth t c =
-    let a = c.operand_value-left.ensures.value in
-    let b = c.next_value-right.ensures.value ∙ ap (λ r. next_result r (value_at c.args.around.now (expr_tree c.in-Rel.b))) a in
+    let a = c.whole_value-left.ensures.value in
+    let b = c.next_side-right.ensures.value ∙ ap (λ r. next_result r (value_at c.args.around.now (expr_tree c.in-Rel.b))) a in
     c.related.ensures ∙ (λ i. of_two (λ u v. Ok (relation_holds c.in-Rel.relation u v)) (a i) (b i))
     ∙ of_next (λ u v. Ok (relation_holds c.in-Rel.relation u v)) (value_at c.args.around.now (expr_tree c.in-Rel.a)) (value_at c.args.around.now (expr_tree c.in-Rel.b))
     ∙ sym (rel_at c.args.around.now c.in-Rel.relation (expr_tree c.in-Rel.a) (expr_tree c.in-Rel.b))
@@ -22,8 +22,8 @@ truth_of-returns-in-Rel-clause-truth t c =
 
 pub truth_of-returns-in-Rel-clause-noted : goal.truth_of-returns-in-Rel-clause-noted
 truth_of-returns-in-Rel-clause-noted t c =
-    relation_noted c.args.around.now c.args.notes.now c.operand_value-left.new.notes c.next_value-right.new.notes c.args.condition.now c.in-Rel.relation c.in-Rel.a c.in-Rel.b c.operand_value-left.result
-    (ap cond_tree c.in-Rel.is ∙ tree-Rel c.in-Rel.relation c.in-Rel.a c.in-Rel.b) c.operand_value-left.ensures.value c.operand_value-left.ensures.noted c.next_value-right.ensures.noted
+    relation_noted c.args.around.now c.args.notes.now c.whole_value-left.new.notes c.next_side-right.new.notes c.args.condition.now c.in-Rel.relation c.in-Rel.a c.in-Rel.b c.whole_value-left.result
+    (ap cond_tree c.in-Rel.is ∙ tree-Rel c.in-Rel.relation c.in-Rel.a c.in-Rel.b) c.whole_value-left.ensures.value c.whole_value-left.ensures.noted c.next_side-right.ensures.noted
 
 pub truth_of-returns-in-Not-clause-truth : goal.truth_of-returns-in-Not-clause-truth
 truth_of-returns-in-Not-clause-truth t c =

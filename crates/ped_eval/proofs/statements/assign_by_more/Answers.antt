@@ -26,7 +26,7 @@ returns-in-Ok-ranked_places-clause-ok c =
     let right = expr_tree c.args.right.now in
     let v : ℤ = to_z w128 (of_z w128 c.in-Ok.value) in
     let fits : FitsSigned w128 c.in-Ok.value = search rules in
-    let h : (value names right m.cells).result ≡ Ok v = sym (ap (λ (k : List (List ℕ × ℤ)). (value (at k) right m.cells).result) c.consts.ensures) ∙ sym c.value_of.ensures.value ∙ c.in-Ok.is ∙ ap Ok (sym (to_z-of_z w128 c.in-Ok.value fits)) in
+    let h : (value names right m.cells).result ≡ Ok v = sym (ap (λ (k : List (List ℕ × ℤ)). (value (at k) right m.cells).result) c.consts.ensures) ∙ sym c.unnoted_value.ensures.value ∙ c.in-Ok.is ∙ ap Ok (sym (to_z-of_z w128 c.in-Ok.value fits)) in
     let js : List ℤ = take (length c.args.indices.now) c.in-Ok-ranked_places.places in
     let k : (target names left m.cells).result ≡ bounded m (cells.Element c.args.name.now js) =
     sym (ap (λ (k : List (List ℕ × ℤ)). (target (at k) left m.cells).result) c.consts.ensures) ∙ target_ranked _ c.args.name.now c.args.indices.now js c.in-Ok-ranked_places.ensures.places c.in-Ok-ranked_places.ensures.rank in
@@ -44,7 +44,7 @@ returns-in-Ok-ranked_places-clause-err c =
     let right = expr_tree c.args.right.now in
     let v : ℤ = to_z w128 (of_z w128 c.in-Ok.value) in
     let fits : FitsSigned w128 c.in-Ok.value = search rules in
-    let h : (value names right m.cells).result ≡ Ok v = sym (ap (λ (k : List (List ℕ × ℤ)). (value (at k) right m.cells).result) c.consts.ensures) ∙ sym c.value_of.ensures.value ∙ c.in-Ok.is ∙ ap Ok (sym (to_z-of_z w128 c.in-Ok.value fits)) in
+    let h : (value names right m.cells).result ≡ Ok v = sym (ap (λ (k : List (List ℕ × ℤ)). (value (at k) right m.cells).result) c.consts.ensures) ∙ sym c.unnoted_value.ensures.value ∙ c.in-Ok.is ∙ ap Ok (sym (to_z-of_z w128 c.in-Ok.value fits)) in
     let js : List ℤ = take (length c.args.indices.now) c.in-Ok-ranked_places.places in
     let k : (target names left m.cells).result ≡ bounded m (cells.Element c.args.name.now js) =
     sym (ap (λ (k : List (List ℕ × ℤ)). (target (at k) left m.cells).result) c.consts.ensures) ∙ target_ranked _ c.args.name.now c.args.indices.now js c.in-Ok-ranked_places.ensures.places c.in-Ok-ranked_places.ensures.rank in
@@ -53,7 +53,7 @@ returns-in-Ok-ranked_places-clause-err c =
     c.set_element.ensures.err
 
 pub returns-in-Ok-ranked_places-clause-noted : goal.returns-in-Ok-ranked_places-clause-noted
-returns-in-Ok-ranked_places-clause-noted c = λ k. absurd (true≢false (sym (c.value_of.ensures.noted (c.ranked_places.ensures.noted k).kept).kept ∙ c.requires.kept))
+returns-in-Ok-ranked_places-clause-noted c = λ k. absurd (true≢false (sym (c.unnoted_value.ensures.noted (c.ranked_places.ensures.noted k).kept).kept ∙ c.requires.kept))
 
 pub returns-in-Err-ranked_places-clause-err : goal.returns-in-Err-ranked_places-clause-err
 unfolding value_at target_at
@@ -65,13 +65,13 @@ returns-in-Err-ranked_places-clause-err c =
     let right = expr_tree c.args.right.now in
     let v : ℤ = to_z w128 (of_z w128 c.in-Ok.value) in
     let fits : FitsSigned w128 c.in-Ok.value = search rules in
-    let h : (value names right m.cells).result ≡ Ok v = sym (ap (λ (k : List (List ℕ × ℤ)). (value (at k) right m.cells).result) c.consts.ensures) ∙ sym c.value_of.ensures.value ∙ c.in-Ok.is ∙ ap Ok (sym (to_z-of_z w128 c.in-Ok.value fits)) in
+    let h : (value names right m.cells).result ≡ Ok v = sym (ap (λ (k : List (List ℕ × ℤ)). (value (at k) right m.cells).result) c.consts.ensures) ∙ sym c.unnoted_value.ensures.value ∙ c.in-Ok.is ∙ ap Ok (sym (to_z-of_z w128 c.in-Ok.value fits)) in
     let k : (target names left m.cells).result ≡ Err c.in-Err-ranked_places.fault =
     sym (ap (λ (k : List (List ℕ × ℤ)). (target (at k) left m.cells).result) c.consts.ensures) ∙ c.in-Err-ranked_places.ensures.err c.args.name.now in
     assigned_place names left right m.cells v c.in-Err-ranked_places.fault h k
 
 pub returns-in-Err-ranked_places-clause-noted : goal.returns-in-Err-ranked_places-clause-noted
-returns-in-Err-ranked_places-clause-noted c = λ k. absurd (true≢false (sym (c.value_of.ensures.noted (c.ranked_places.ensures.noted k).kept).kept ∙ c.requires.kept))
+returns-in-Err-ranked_places-clause-noted c = λ k. absurd (true≢false (sym (c.unnoted_value.ensures.noted (c.ranked_places.ensures.noted k).kept).kept ∙ c.requires.kept))
 
 pub returns-in-Err-clause-err : goal.returns-in-Err-clause-err
 unfolding value_at
@@ -81,8 +81,8 @@ returns-in-Err-clause-err c =
     let names = names_at m c.args.state.now.scope c.args.symbols.now.constants in
     let left = Element c.args.name.now (pack_exprs (map expr_tree c.args.indices.now)) in
     let right = expr_tree c.args.right.now in
-    let h : (value names right m.cells).result ≡ Err c.in-Err.fault = sym (ap (λ (k : List (List ℕ × ℤ)). (value (at k) right m.cells).result) c.consts.ensures) ∙ sym c.value_of.ensures.value ∙ c.in-Err.is in
+    let h : (value names right m.cells).result ≡ Err c.in-Err.fault = sym (ap (λ (k : List (List ℕ × ℤ)). (value (at k) right m.cells).result) c.consts.ensures) ∙ sym c.unnoted_value.ensures.value ∙ c.in-Err.is in
     assigned_value names left right m.cells c.in-Err.fault h
 
 pub returns-in-Err-clause-noted : goal.returns-in-Err-clause-noted
-returns-in-Err-clause-noted c = λ k. absurd (true≢false (sym (c.value_of.ensures.noted k).kept ∙ c.requires.kept))
+returns-in-Err-clause-noted c = λ k. absurd (true≢false (sym (c.unnoted_value.ensures.noted k).kept ∙ c.requires.kept))

@@ -10,7 +10,7 @@ use Rattle.ped_tree.specs.Constants.NamedConstants.{value_named}
 use Rattle.ped_tree.specs.Grammar.LimitNumbers.{greatest_literal}
 use Rattle.ped_tree.specs.NamesIn.{expr_names, exprs_names, stmts_names}
 use Rattle.ped_tree.specs.Tree.{ExprTree, ExprTrees, Int, Var, Element, Neg, Add, Sub, Mul, Div, Pow, Call, no_exprs, more_exprs, StmtTree, StmtTrees, Assign, ProgramTree}
-use Rattle.ped_steps.specs.ped_sums.specs.Sums.{literal}
+use Rattle.ped_steps.specs.ped_symbolic.specs.Arithmetic.{literal}
 use Rattle.ped_steps.specs.ped_symbols.specs.Kinds.{kind_in}
 use Rattle.ped_steps.specs.ped_symbols.specs.NameRefusals.{has_twice}
 use Rattle.ped_steps.specs.ped_symbols.specs.Values.{Values, within, fixed_value}

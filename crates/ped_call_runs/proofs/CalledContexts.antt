@@ -13,7 +13,7 @@ use Rattle.ped_tree.specs.Constants.ConstantExpressions.{constant_value}
 use Rattle.ped_tree.specs.Constants.NamedConstants.{value_named}
 use Rattle.ped_tree.specs.NamesIn.{expr_names}
 use Rattle.ped_tree.specs.Tree.{ExprTree, Int, Var, Element, Neg, Add, Sub, Mul, Div, Pow, Call, StmtTrees, ProgramTree}
-use Rattle.ped_steps.specs.ped_sums.specs.Sums.{literal}
+use Rattle.ped_steps.specs.ped_symbolic.specs.Arithmetic.{literal}
 use Rattle.ped_steps.specs.ped_symbols.specs.Entries.{entry_of, with_entry}
 use Rattle.ped_steps.specs.ped_symbols.specs.Kinds.{at_last, kind_by, kind_of, kind_in, names_of}
 use Rattle.ped_steps.specs.ped_symbols.specs.NameRefusals.{has_twice}

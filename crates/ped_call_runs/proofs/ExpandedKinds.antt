@@ -13,7 +13,7 @@ use Rattle.ped_tree.specs.Constants.NamedConstants.{value_named}
 use Rattle.ped_tree.specs.Grammar.LimitNumbers.{most_dimensions}
 use Rattle.ped_tree.specs.Grammar.Words.{is_name}
 use Rattle.ped_tree.specs.Tree.{ExprTree, BoundTree, DeclaratorTree, DeclTree, ProgramTree}
-use Rattle.ped_steps.specs.ped_sums.specs.Sums.{literal}
+use Rattle.ped_steps.specs.ped_symbolic.specs.Arithmetic.{literal}
 use Rattle.ped_steps.specs.ped_symbols.specs.Arrays.{Arrays, with_dimension, bounds_values, with_bounds, by_bounds, arrays_of, arrays_in}
 use Rattle.ped_steps.specs.ped_symbols.specs.declared.symbols.Kind.{Kind}
 use Rattle.ped_steps.specs.ped_symbols.specs.declared.symbols.Kind.TheVariants.{Scalar, Array, Constant}
@@ -32,7 +32,7 @@ use Rattle.ped_calls.specs.ped_units.specs.Expanding.{Given, free_name, literal_
 use Rattle.ped_calls.proofs.SmallKinds.{small_fixed}
 use Rattle.ped_steps.specs.ped_store.specs.Variables.{no_dimensions}
 use Rattle.ped_steps.specs.ped_eval.specs.Outcomes.{bounds_of}
-use Rattle.ped_steps.proofs.RunLaws.ExpandedNamesArrays.{entry_behind, no_constant, unsaid, literal_fixed}
+use Rattle.ped_steps.proofs.RunLaws.DeclaredArrays.{entry_behind, no_constant, unsaid, literal_fixed}
 use Rattle.ped_steps.proofs.RunLaws.NamesKept.{occurs, occurs_append}
 use Rattle.ped_call_runs.proofs.EachNames.{each_behind}
 use Rattle.ped_call_runs.proofs.FreeWritten.{free_named}

@@ -11,7 +11,7 @@ use Rattle.ped_base.specs.Arithmetic.Arithmetic.{is_in_range}
 use Rattle.ped_base.proofs.NameEquality.{same_is, same_itself}
 use Rattle.ped_tree.specs.Tree.{ExprTree, Int, Var, Neg}
 use Rattle.ped_tree.specs.Constants.NamedConstants.{value_named}
-use Rattle.ped_steps.specs.ped_sums.specs.Sums.{literal}
+use Rattle.ped_steps.specs.ped_symbolic.specs.Arithmetic.{literal}
 use Rattle.ped_calls.specs.ped_units.specs.Expanding.{Meanings, meaning, name_or, name_meant}
 use Rattle.ped_steps.specs.ped_store.specs.Cells.{Cell, Scalar, Element, Private, In, Out, same_cell}
 use Rattle.ped_steps.specs.ped_store.specs.Stores.{Content, Number, Store, number_read, outside_bounds}

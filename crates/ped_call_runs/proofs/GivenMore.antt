@@ -17,7 +17,7 @@ use Rattle.ped_steps.specs.ped_symbols.specs.Values.{Values}
 use Rattle.ped_calls.specs.ped_units.specs.Forms.{Called}
 use Rattle.ped_calls.specs.ped_units.specs.Units.{ProgramUnit, ProgramUnits}
 use Rattle.ped_calls.specs.ped_units.specs.Expanding.{Given, free_name, with_new, literal_bounds, declared_as, with_local, Meanings, bound_arguments, Renamed, renamed, expanded_in, all_expanded_in, call_expanded}
-use Rattle.ped_steps.proofs.RunLaws.ExpandedNamesArrays.{entry_before}
+use Rattle.ped_steps.proofs.RunLaws.DeclaredArrays.{entry_before}
 use Rattle.ped_call_runs.proofs.EachNames.{each_front, each_behind}
 use Rattle.ped_call_runs.proofs.FreeWritten.{free_named}
 use Rattle.ped_call_runs.proofs.WrittenNames.{IsName, AreNames, declared_names, all_declared}

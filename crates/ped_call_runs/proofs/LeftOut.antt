@@ -12,7 +12,7 @@ use Rattle.ped_tree.specs.Constants.NamedConstants.{value_named}
 use Rattle.ped_tree.specs.Grammar.LimitNumbers.{greatest_literal}
 use Rattle.ped_tree.specs.Numbering.{statement_count, statements_count}
 use Rattle.ped_tree.specs.Tree.{ExprTree, ExprTrees, Int, Var, Element, Neg, Add, Sub, Mul, Div, Pow, Call, no_exprs, more_exprs, StmtTree, StmtTrees, Assign, If, Do, Print, Read, Stop, Comment, no_stmts, more_stmts}
-use Rattle.ped_steps.specs.ped_sums.specs.Sums.{literal}
+use Rattle.ped_steps.specs.ped_symbolic.specs.Arithmetic.{literal}
 use Rattle.ped_calls.specs.Giving.{IsSmall}
 use Rattle.ped_steps.specs.ped_symbols.specs.Entries.{entry_of, with_entry}
 use Rattle.ped_steps.specs.ped_symbols.specs.Kinds.{kind_in}

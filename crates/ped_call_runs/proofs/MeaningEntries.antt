@@ -4,7 +4,7 @@ use Rattle.ped_base.specs.Lists.{is_same_text, is_among}
 use Rattle.ped_base.proofs.NameEquality.{same_is, same_itself}
 use Rattle.ped_tree.specs.Tree.{ExprTree, Var}
 use Rattle.ped_tree.specs.Constants.NamedConstants.{value_named}
-use Rattle.ped_steps.specs.ped_sums.specs.Sums.{literal}
+use Rattle.ped_steps.specs.ped_symbolic.specs.Arithmetic.{literal}
 use Rattle.ped_steps.specs.ped_symbols.specs.Entries.{entry_of, with_entry}
 use Rattle.ped_steps.specs.ped_symbols.specs.Values.{Values}
 use Rattle.ped_calls.specs.ped_units.specs.Expanding.{Meanings, with_formals, with_constants}

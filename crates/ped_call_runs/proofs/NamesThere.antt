@@ -17,7 +17,7 @@ use Rattle.ped_calls.specs.ped_units.specs.Forms.{Called}
 use Rattle.ped_calls.specs.ped_units.specs.Units.{ProgramUnit, call_of, instead_of, with_calls, all_with_calls}
 use Rattle.ped_calls.specs.ped_units.specs.Refusals.{dimensioned, is_whole_array, plain_arguments, is_zero, and_zeros, condition_of, using_arguments, save_of_formals, for_names}
 use Rattle.ped_calls.specs.ped_units.specs.Expanding.{naming_arguments, body_names}
-use Rattle.ped_steps.proofs.RunLaws.ExpandedNamesSites.{stmts_at}
+use Rattle.ped_steps.proofs.RunLaws.NamesAtSites.{stmts_at}
 use Rattle.ped_steps.proofs.RunLaws.NamesKept.{occurs, occurs_append}
 use Rattle.ped_call_runs.proofs.EachNames.{Each, each_front, each_behind, each_of, of_each, each_joined}
 

@@ -28,7 +28,7 @@ use Rattle.ped_calls.specs.ped_units.specs.Units.{ProgramUnit, ProgramUnits}
 use Rattle.ped_calls.specs.ped_units.specs.Refusals.{for_names}
 use Rattle.ped_calls.specs.ped_units.specs.Linking.{IsIn, bounds_by}
 use Rattle.ped_calls.specs.ped_units.specs.Expanding.{numbered_name, free_from, free_name, Given, with_new, literal_bounds, array_declaration, declared_as, with_local, nothing_given}
-use Rattle.ped_steps.proofs.RunLaws.ExpandedNamesArrays.{entry_behind, entry_before, literal_uses}
+use Rattle.ped_steps.proofs.RunLaws.DeclaredArrays.{entry_behind, entry_before, literal_uses}
 use Rattle.ped_call_runs.proofs.EachNames.{each_front, each_behind}
 use Rattle.ped_call_runs.proofs.FreeWritten.{free_named}
 use Rattle.ped_call_runs.proofs.WrittenNames.{IsName, AreNames, declared_names, all_declared}

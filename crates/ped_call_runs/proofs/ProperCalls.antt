@@ -11,8 +11,8 @@ use Rattle.ped_tree.specs.Constants.NamedConstants.{value_named}
 use Rattle.ped_tree.specs.Grammar.Fits.{expr_fits}
 use Rattle.ped_tree.specs.NamesIn.{expr_names, exprs_names, all_private_names_in}
 use Rattle.ped_tree.specs.Tree.{ExprTree, ExprTrees, Int, Var, Element, Neg, Add, Sub, Mul, Div, Pow, Call, no_exprs, more_exprs, CondTree, And, StmtTrees, no_stmts}
-use Rattle.ped_steps.specs.ped_sums.specs.Sums.{literal}
-use Rattle.ped_steps.proofs.RunLaws.ExpandedNamesArrays.{literal_uses}
+use Rattle.ped_steps.specs.ped_symbolic.specs.Arithmetic.{literal}
+use Rattle.ped_steps.proofs.RunLaws.DeclaredArrays.{literal_uses}
 use Rattle.ped_calls.specs.Giving.{IsSmall}
 use Rattle.ped_calls.proofs.SmallKinds.{small_constants}
 use Rattle.ped_steps.specs.ped_symbols.specs.declared.symbols.Kind.{Kind}

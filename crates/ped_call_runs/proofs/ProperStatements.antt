@@ -12,8 +12,8 @@ use Rattle.ped_tree.specs.Grammar.Fits.{takes_arguments, has_expr, expr_fits, ex
 use Rattle.ped_tree.specs.NamesIn.{expr_names, exprs_names, cond_names, item_names, private_names_in, all_private_names_in}
 use Rattle.ped_tree.specs.Numbering.{statement_count, statements_count}
 use Rattle.ped_tree.specs.Tree.{ExprTree, ExprTrees, Int, Var, Element, Neg, Add, Sub, Mul, Div, Pow, Call, no_exprs, more_exprs, CondTree, Rel, Not, And, Or, ItemTree, Value, Text, Head, StmtTree, StmtTrees, Assign, If, Do, Print, Read, Stop, Comment, no_stmts, more_stmts}
-use Rattle.ped_steps.specs.ped_sums.specs.Sums.{literal}
-use Rattle.ped_steps.proofs.RunLaws.ExpandedNamesArrays.{literal_uses}
+use Rattle.ped_steps.specs.ped_symbolic.specs.Arithmetic.{literal}
+use Rattle.ped_steps.proofs.RunLaws.DeclaredArrays.{literal_uses}
 use Rattle.ped_steps.specs.ped_symbols.specs.declared.uses.Role.{Role}
 use Rattle.ped_steps.specs.ped_symbols.specs.declared.uses.Role.TheVariants.{Rejected, Private, Index, Assigned, Operand}
 use Rattle.ped_steps.specs.ped_symbols.specs.Declarations.{Declared, declared_in, rank_of}

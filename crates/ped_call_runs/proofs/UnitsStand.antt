@@ -28,7 +28,7 @@ use Rattle.ped_steps.specs.ped_eval.specs.Outcomes.{setting_of, live_names}
 use Rattle.ped_steps.specs.ped_eval.specs.Scopes.{Setting}
 use Rattle.ped_steps.specs.Runs.Renumbering.{renumbered}
 use Rattle.ped_steps.specs.ped_laws.proofs.RunLaws.Turning.{once_among}
-use Rattle.ped_steps.proofs.RunLaws.ExpandedNamesArrays.{no_saved}
+use Rattle.ped_steps.proofs.RunLaws.DeclaredArrays.{no_saved}
 use Rattle.ped_call_runs.specs.UnitRuns.{own, main_instance, all_sized, call_size}
 use Rattle.ped_call_runs.proofs.EachNames.{each_behind, each_of, of_each}
 use Rattle.ped_call_runs.proofs.FollowingStores.{is_bound}

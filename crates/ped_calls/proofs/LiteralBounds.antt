@@ -4,7 +4,7 @@ use Rattle.std.proofs.lemmas.List.{map_push, drop_all}
 use Rattle.std.proofs.lemmas.Grind.{common_steps}
 use Rattle.ped_base.specs.Dimensions.{dimensions, IsBounds}
 use Rattle.ped_base.specs.declared.bounds.Bounds.TheInside.{Inside}
-use Rattle.ped_links.specs.ped_units.specs.ped_sums.specs.Sums.{literal}
+use Rattle.ped_links.specs.ped_units.specs.ped_symbolic.specs.Arithmetic.{literal}
 use Rattle.ped_tree.specs.Tree.{BoundTree}
 use Rattle.ped_tree.specs.Views.{bound_tree}
 use Rattle.ped_tree.specs.declared.declarations.Bound.{Bound}

@@ -4,7 +4,7 @@ use Rattle.ped_base.specs.Lists.{is_same_text, is_among}
 use Rattle.ped_base.proofs.NameEquality.{same_is, same_itself}
 use Rattle.ped_tree.specs.Tree.{ExprTree, Var}
 use Rattle.ped_tree.specs.Constants.NamedConstants.{value_named}
-use Rattle.ped_links.specs.ped_units.specs.ped_sums.specs.Sums.{literal}
+use Rattle.ped_links.specs.ped_units.specs.ped_symbolic.specs.Arithmetic.{literal}
 use Rattle.ped_links.specs.ped_symbols.specs.declared.symbols.Kind.{Kind}
 use Rattle.ped_links.specs.ped_symbols.specs.Entries.{entry_of, with_entry}
 use Rattle.ped_links.specs.ped_symbols.specs.Kinds.{kind_in}

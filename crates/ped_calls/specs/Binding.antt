@@ -3,7 +3,7 @@ use Rattle.std.specs.Prelude.{◌≡◌, ◌++◌, ℕ, ℤ, List, drop, true, O
 use Rattle.ped_base.specs.Lists.{is_among}
 use Rattle.ped_tree.specs.Tree.{ExprTree, StmtTree}
 use Rattle.ped_tree.specs.Constants.NamedConstants.{value_named}
-use Rattle.ped_links.specs.ped_units.specs.ped_sums.specs.Sums.{literal}
+use Rattle.ped_links.specs.ped_units.specs.ped_symbolic.specs.Arithmetic.{literal}
 use Rattle.ped_links.specs.ped_symbols.specs.declared.symbols.Kind.{Kind}
 use Rattle.ped_links.specs.ped_symbols.specs.Entries.{entry_of, with_entry}
 use Rattle.ped_links.specs.ped_symbols.specs.Values.{Values}

@@ -9,7 +9,7 @@ ghost use Rattle.ped_links.specs.ped_symbols.specs.Kinds.{table_of};
 ghost use Rattle.ped_links.specs.ped_symbols.specs.Values as Values;
 ghost use Rattle.ped_links.specs.ped_symbols.specs.Entries.{entry_of, with_entry};
 ghost use Rattle.ped_links.specs.ped_units.specs.Refusals.{for_names};
-ghost use Rattle.ped_links.specs.ped_units.specs.ped_sums.specs.Sums.{literal as literal_tree};
+ghost use Rattle.ped_links.specs.ped_units.specs.ped_symbolic.specs.Arithmetic.{literal as literal_tree};
 ghost use Rattle.ped_links.specs.ped_units.specs.Expanding as Spec;
 ghost use Rattle.ped_links.specs.ped_units.specs.Expanding.{free_name, with_new, with_formals, with_renamed, bound_arguments};
 ghost use Rattle.ped_calls.specs.Giving.{given_of, HasNext, IsSmall, HasSmallKind};

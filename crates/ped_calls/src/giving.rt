@@ -1,7 +1,7 @@
 //! New names, each given once, and the arrays that are declared with them.
 
 ghost use Rattle.std.specs.Prelude.{◌≡◌, [], IfOk, OnOk, map};
-ghost use Rattle.ped_links.specs.ped_units.specs.ped_sums.specs.Sums as Sums;
+ghost use Rattle.ped_links.specs.ped_units.specs.ped_symbolic.specs.Arithmetic;
 ghost use Rattle.ped_tree.specs.Views.{expr_tree, bound_tree, decl_tree};
 ghost use Rattle.ped_links.specs.ped_units.specs.Expanding as Spec;
 ghost use Rattle.ped_links.specs.ped_units.specs.Expanding.{numbered_name, free_name, with_new, with_local};
@@ -128,7 +128,7 @@ fn literal_bounds(alloc: Global, bounds: &Bounds) -> Result<Vec<Bound>, NoMemory
 fn literal_bound(alloc: Global, lower: i64, upper: i64) -> Result<Bound, NoMemory>
     requires lower { IsSmall lower }
     requires upper { IsSmall upper }
-    ensures { IfOk result (λ b. bound_tree b ≡ record { lower = Sums.literal lower; upper = Sums.literal upper }) }
+    ensures { IfOk result (λ b. bound_tree b ≡ record { lower = Arithmetic.literal lower; upper = Arithmetic.literal upper }) }
 {
     let lower = literal(alloc, lower)?;
     match literal(alloc, upper) {
@@ -143,7 +143,7 @@ fn literal_bound(alloc: Global, lower: i64, upper: i64) -> Result<Bound, NoMemor
 /// The literal of a number, with a sign where the number is negative (ANSI X3.9-1978, section 4.3).
 pub fn literal(alloc: Global, n: i64) -> Result<Expr, NoMemory>
     requires { IsSmall n }
-    ensures { IfOk result (λ e. expr_tree e ≡ Sums.literal n) }
+    ensures { IfOk result (λ e. expr_tree e ≡ Arithmetic.literal n) }
 {
     let size = Expr::literal(n.unsigned_abs() as u32);
     if n < 0 {

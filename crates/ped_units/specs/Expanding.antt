@@ -9,7 +9,7 @@ use Rattle.ped_tree.specs.Tree.{ExprTree, ExprTrees, Int, Var, Element, Neg, Add
 use Rattle.ped_tree.specs.NamesIn.{stmts_names, first_occurrences}
 use Rattle.ped_tree.specs.Accesses.{listed}
 use Rattle.ped_tree.specs.Constants.NamedConstants.{value_named}
-use Rattle.ped_sums.specs.Sums.{literal}
+use Rattle.ped_symbolic.specs.Arithmetic.{literal}
 use Rattle.ped_valid.specs.ped_symbols.specs.declared.symbols.Kind.{Kind}
 use Rattle.ped_valid.specs.ped_symbols.specs.declared.symbols.Kind.TheVariants.{Scalar, Array, Constant}
 use Rattle.ped_valid.specs.ped_symbols.specs.Declarations.{program_name}

@@ -1,5 +1,5 @@
 pub use Rattle.ped_valid
-pub use Rattle.ped_sums
+pub use Rattle.ped_symbolic
 pub use Rattle.ped_valid.specs.ped_parse
 pub use Rattle.ped_valid.specs.ped_symbols
 pub mod Forms

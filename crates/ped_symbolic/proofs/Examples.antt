@@ -4,8 +4,8 @@ use Rattle.std.specs.Prelude.{codes}
 use Rattle.ped_tree.specs.declared.expressions.Intrinsic.TheVariants.{Max}
 use Rattle.ped_tree.specs.declared.conditions.Relation.TheVariants.{Lt}
 use Rattle.ped_tree.specs.Tree.{ExprTree, Int, Var, Element, Neg, Add, Sub, Mul, Call, no_exprs, more_exprs, Rel, Not, Value, Text, Head, StmtTrees, Assign, If, Do, Print, Read, Comment, no_stmts, more_stmts}
-use Rattle.ped_sums.specs.Sums.{plus_of, minus_of, times_of}
-use Rattle.ped_sums.specs.Substitution.{substituted, statements_substituted}
+use Rattle.ped_symbolic.specs.Arithmetic.{plus_of, minus_of, times_of}
+use Rattle.ped_symbolic.specs.Substitution.{substituted, statements_substituted}
 
 abbrev i : ExprTree
 i = Var (codes "I")

@@ -1,2 +1,2 @@
+pub mod Arithmetic
 pub mod Substitution
-pub mod Sums

@@ -2,7 +2,7 @@
 
 ghost use Rattle.std.specs.Prelude.{◌≡◌, IfOk};
 ghost use Rattle.ped_tree.specs.Views.{expr_tree, cond_tree};
-ghost use Rattle.ped_sums.specs.Substitution as Spec;
+ghost use Rattle.ped_symbolic.specs.Substitution as Spec;
 
 use super::expressions::substitute;
 use ped_base::{Name, NoMemory, both};

@@ -1,7 +1,7 @@
 use Rattle.std.proofs.Common.{◌≡◌, map, drop}
 use Rattle.ped_tree.specs.Views.{expr_tree, pack_exprs}
-use Rattle.ped_sums.specs.Substitution.{have_scalar}
-use Rattle.ped_sums.proofs.substitution.expressions.+has_scalar.Given as goal
+use Rattle.ped_symbolic.specs.Substitution.{have_scalar}
+use Rattle.ped_symbolic.proofs.substitution.expressions.+has_scalar.Given as goal
 
 abbrev pub invariant-have_scalar-loop-e : goal.invariant-have_scalar-loop-e
 invariant-have_scalar-loop-e l =

@@ -3,7 +3,7 @@
 
 ghost use Rattle.std.specs.Prelude.{◌≡◌, IfOk, map};
 ghost use Rattle.ped_tree.specs.Views.{expr_tree, item_tree, stmt_tree, stmt_trees, do_tree};
-ghost use Rattle.ped_sums.specs.Substitution as Spec;
+ghost use Rattle.ped_symbolic.specs.Substitution as Spec;
 
 use super::conditions::substitute_in_condition;
 use super::expressions::{substitute, substitute_in_all};

@@ -3,7 +3,7 @@
 ghost use Rattle.std.specs.Prelude.{◌≡◌, ◌≤◌, ◌<◌, ◌^◌, ◌+ℤ◌, ◌-ℤ◌, ◌*ℤ◌, ℕ, pos, IfOk, IfSome, MatchOption, Some, unsigned_abs};
 ghost use Rattle.ped_tree.specs.Tree.{ExprTree, Int, Neg, Add, Sub};
 ghost use Rattle.ped_tree.specs.Views.{expr_tree};
-ghost use Rattle.ped_sums.specs.Sums as Spec;
+ghost use Rattle.ped_symbolic.specs.Arithmetic as Spec;
 
 use ped_base::NoMemory;
 use ped_tree::Expr;

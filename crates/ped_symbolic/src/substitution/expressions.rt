@@ -4,10 +4,10 @@ ghost use Rattle.std.specs.Prelude.{◌≡◌, IfOk, map};
 ghost use Rattle.ped_tree.specs.Tree;
 ghost use Rattle.ped_tree.specs.Views.{expr_tree, pack_exprs};
 ghost use Rattle.ped_base.specs.Lists.{is_same_text};
-ghost use Rattle.ped_sums.specs.Substitution as Spec;
-ghost use Rattle.ped_sums.specs.Sums;
+ghost use Rattle.ped_symbolic.specs.Substitution as Spec;
+ghost use Rattle.ped_symbolic.specs.Arithmetic;
 
-use crate::sums::{minus, plus};
+use crate::arithmetic::{minus, plus};
 use ped_base::{Name, NoMemory, both};
 use ped_tree::Expr;
 use std::alloc::Global;
@@ -117,7 +117,7 @@ pub fn substitute(alloc: Global, e: &Expr, name: &Name, by: &Expr) -> Result<Exp
 
 /// The sum of two expressions, which are dropped.
 fn sum_of(alloc: Global, a: Expr, b: Expr) -> Result<Expr, NoMemory>
-    ensures { IfOk result (λ e. expr_tree e ≡ Sums.plus_of (expr_tree a) (expr_tree b)) }
+    ensures { IfOk result (λ e. expr_tree e ≡ Arithmetic.plus_of (expr_tree a) (expr_tree b)) }
 {
     let sum = plus(alloc, &a, &b);
     drop(a);
@@ -127,7 +127,7 @@ fn sum_of(alloc: Global, a: Expr, b: Expr) -> Result<Expr, NoMemory>
 
 /// The difference of two expressions, which are dropped.
 fn difference_of(alloc: Global, a: Expr, b: Expr) -> Result<Expr, NoMemory>
-    ensures { IfOk result (λ e. expr_tree e ≡ Sums.minus_of (expr_tree a) (expr_tree b)) }
+    ensures { IfOk result (λ e. expr_tree e ≡ Arithmetic.minus_of (expr_tree a) (expr_tree b)) }
 {
     let difference = minus(alloc, &a, &b);
     drop(a);

@@ -2,7 +2,7 @@
 use Rattle.std.proofs.Common.{◌≡◌, ℕ, List, [], ◌∷◌, map, refl, ap}
 use Rattle.ped_tree.specs.Tree.{ExprTree, more_exprs, StmtTree, more_stmts}
 use Rattle.ped_tree.specs.Views.{pack_exprs, pack_stmts}
-use Rattle.ped_sums.specs.Substitution.{substituted, all_substituted, statement_substituted, statements_substituted}
+use Rattle.ped_symbolic.specs.Substitution.{substituted, all_substituted, statement_substituted, statements_substituted}
 
 -- expressions of a list
 pub exprs_packed : (x : List ℕ) (by : ExprTree) (es : List ExprTree) → pack_exprs (map (substituted x by) es) ≡ all_substituted x by (pack_exprs es)

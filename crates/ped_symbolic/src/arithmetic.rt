@@ -2,7 +2,7 @@
 
 ghost use Rattle.std.specs.Prelude.{◌≡◌, ◌≤◌, IfOk};
 ghost use Rattle.ped_tree.specs.Views.{expr_tree};
-ghost use Rattle.ped_sums.specs.Sums as Spec;
+ghost use Rattle.ped_symbolic.specs.Arithmetic as Spec;
 
 use crate::literals::{
     difference_of_literals, is_zero, literal, negative_literal, product_of_literals,

@@ -1,7 +1,7 @@
 use Rattle.std.proofs.Common.{◌≡◌, map, take}
 use Rattle.ped_tree.specs.Views.{expr_tree}
-use Rattle.ped_sums.specs.Substitution.{substituted}
-use Rattle.ped_sums.proofs.substitution.expressions.+substitute.Given as goal
+use Rattle.ped_symbolic.specs.Substitution.{substituted}
+use Rattle.ped_symbolic.proofs.substitution.expressions.+substitute.Given as goal
 
 abbrev pub invariant-substitute_in_all-loop-e :
     goal.invariant-substitute_in_all-loop-e

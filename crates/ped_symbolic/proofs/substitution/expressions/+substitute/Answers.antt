@@ -1,8 +1,8 @@
 use Rattle.std.proofs.Common.{◌≤◌, ◌∙◌, ap, map, length, arith, take_all}
 use Rattle.ped_tree.specs.Views.{expr_tree, pack_exprs}
-use Rattle.ped_sums.specs.Substitution.{substituted}
-use Rattle.ped_sums.proofs.Packed.{exprs_packed}
-use Rattle.ped_sums.proofs.substitution.expressions.+substitute.Goals as goal
+use Rattle.ped_symbolic.specs.Substitution.{substituted}
+use Rattle.ped_symbolic.proofs.Packed.{exprs_packed}
+use Rattle.ped_symbolic.proofs.substitution.expressions.+substitute.Goals as goal
 
 pub substitute_in_all-returns-clause-packed : goal.substitute_in_all-returns-clause-packed
 substitute_in_all-returns-clause-packed t c =

@@ -2,7 +2,7 @@
 use Rattle.std.specs.Prelude.{ℕ, List, map, Bool, false, ◌&&◌, ◌||◌, not, if◌then◌else◌}
 use Rattle.ped_base.specs.Lists.{is_same_text}
 use Rattle.ped_tree.specs.Tree.{ExprTree, ExprTrees, Int, Var, Element, Neg, Add, Sub, Mul, Div, Pow, Call, no_exprs, more_exprs, CondTree, Rel, Not, And, Or, ItemTree, Value, Text, Head, StmtTree, StmtTrees, Assign, If, Do, Print, Read, Stop, Comment, no_stmts, more_stmts}
-use Rattle.ped_sums.specs.Sums.{plus_of, minus_of}
+use Rattle.ped_symbolic.specs.Arithmetic.{plus_of, minus_of}
 
 -- the scalar occurs in the expression
 abbrev mutual

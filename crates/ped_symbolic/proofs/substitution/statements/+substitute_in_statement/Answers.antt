@@ -1,8 +1,8 @@
 use Rattle.std.proofs.Common.{◌≤◌, ◌∙◌, ap, map, length, arith, take_all}
 use Rattle.ped_tree.specs.Views.{expr_tree, stmt_tree, pack_stmts}
-use Rattle.ped_sums.specs.Substitution.{statement_substituted}
-use Rattle.ped_sums.proofs.Packed.{statements_packed}
-use Rattle.ped_sums.proofs.substitution.statements.+substitute_in_statement.Goals as goal
+use Rattle.ped_symbolic.specs.Substitution.{statement_substituted}
+use Rattle.ped_symbolic.proofs.Packed.{statements_packed}
+use Rattle.ped_symbolic.proofs.substitution.statements.+substitute_in_statement.Goals as goal
 
 pub substitute_in_statements-returns : goal.substitute_in_statements-returns
 substitute_in_statements-returns t c =

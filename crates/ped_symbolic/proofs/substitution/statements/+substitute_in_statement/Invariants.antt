@@ -1,7 +1,7 @@
 use Rattle.std.proofs.Common.{◌≡◌, map, take}
 use Rattle.ped_tree.specs.Views.{expr_tree, stmt_tree}
-use Rattle.ped_sums.specs.Substitution.{statement_substituted}
-use Rattle.ped_sums.proofs.substitution.statements.+substitute_in_statement.Given as goal
+use Rattle.ped_symbolic.specs.Substitution.{statement_substituted}
+use Rattle.ped_symbolic.proofs.substitution.statements.+substitute_in_statement.Given as goal
 
 abbrev pub invariant-substitute_in_statements-loop-statement : goal.invariant-substitute_in_statements-loop-statement
 invariant-substitute_in_statements-loop-statement l =

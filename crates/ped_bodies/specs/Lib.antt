@@ -1,5 +1,5 @@
 pub use Rattle.ped_steps
-pub use Rattle.ped_steps.specs.ped_sums
+pub use Rattle.ped_steps.specs.ped_symbolic
 pub use Rattle.ped_steps.specs.ped_refs
 pub use Rattle.ped_steps.specs.ped_edges
 pub use Rattle.ped_steps.specs.ped_weaves

@@ -5,7 +5,7 @@ use Rattle.ped_steps.specs.ped_flow.specs.ped_tree.specs.Tree.{ExprTree, ExprTre
 use Rattle.ped_steps.specs.ped_flow.specs.ped_tree.specs.declared.expressions.Intrinsic.{Intrinsic}
 use Rattle.ped_steps.specs.ped_flow.specs.ped_tree.specs.Constants.ConstantExpressions.{constant_value}
 use Rattle.ped_steps.specs.ped_affine.specs.Assigned.{assigned_in_all}
-use Rattle.ped_steps.specs.ped_sums.specs.Sums.{plus_of, minus_of}
+use Rattle.ped_steps.specs.ped_symbolic.specs.Arithmetic.{plus_of, minus_of}
 
 -- what rewrites expressions, and lists of them, goes into their parts, and may make sums and differences anew; scalars it may put anything for (this project)
 pub record IsRewriting (h : ExprTree → ExprTree) (hs : ExprTrees → ExprTrees) : Type 0 where

@@ -6,7 +6,7 @@ ghost use Rattle.ped_steps.specs.ped_flow.specs.ped_base.specs.Lists.{is_same_te
 ghost use Rattle.ped_steps.specs.ped_flow.specs.ped_tree.specs.Constants.NamedConstants.{value_named};
 ghost use Rattle.ped_steps.specs.ped_flow.specs.ped_tree.specs.NamesIn.{stmts_names};
 ghost use Rattle.ped_steps.specs.ped_flow.specs.ped_tree.specs.Tree.{ExprTree, Var, StmtTrees};
-ghost use Rattle.ped_steps.specs.ped_sums.specs.Substitution.{substituted, statements_substituted};
+ghost use Rattle.ped_steps.specs.ped_symbolic.specs.Substitution.{substituted, statements_substituted};
 ghost use Rattle.ped_steps.specs.ped_laws.specs.Acts.Renaming.{own_name};
 ghost use Rattle.ped_steps.specs.ped_laws.specs.Acts.Sets.{nothing};
 ghost use Rattle.ped_steps.specs.ped_store.specs.Acts.{iterations_of};

@@ -3,7 +3,7 @@
 ghost use Rattle.std.specs.Prelude.{◌≡◌, ℕ, List, Bool, false};
 ghost use Rattle.ped_steps.specs.ped_flow.specs.ped_tree.specs.Tree.{ExprTree, ExprTrees, StmtTrees};
 ghost use Rattle.ped_steps.specs.ped_flow.specs.ped_tree.specs.NamesIn.{stmts_names};
-ghost use Rattle.ped_steps.specs.ped_sums.specs.Substitution.{substituted, statements_substituted};
+ghost use Rattle.ped_steps.specs.ped_symbolic.specs.Substitution.{substituted, statements_substituted};
 ghost use Rattle.ped_steps.specs.ped_store.specs.Cells.{Cell};
 ghost use Rattle.ped_steps.specs.ped_store.specs.Stores.{Store};
 ghost use Rattle.ped_steps.specs.ped_flow.specs.ped_tree.specs.NamesIn.{all_loop_variables};

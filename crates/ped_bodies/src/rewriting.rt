@@ -5,7 +5,7 @@ ghost use Rattle.ped_steps.specs.ped_flow.specs.ped_base.specs.Lists.{is_among};
 ghost use Rattle.ped_steps.specs.ped_affine.specs.Assigned.{assigned_in_all};
 ghost use Rattle.ped_steps.specs.ped_flow.specs.ped_tree.specs.Constants.NamedConstants.{value_named};
 ghost use Rattle.ped_steps.specs.ped_flow.specs.ped_tree.specs.Tree.{ExprTree, StmtTrees};
-ghost use Rattle.ped_steps.specs.ped_sums.specs.Substitution.{substituted, all_substituted, statements_substituted};
+ghost use Rattle.ped_steps.specs.ped_symbolic.specs.Substitution.{substituted, all_substituted, statements_substituted};
 ghost use Rattle.ped_bodies.specs.Rewriting.{IsRewriting, unchanged, all_unchanged, statements_rewritten, HaveIncrements, MayBeRewritten};
 
 /// An expression in place of a scalar is a rewriting, and so is leaving everything as it is; statements are substituted

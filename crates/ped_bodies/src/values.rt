@@ -7,7 +7,7 @@ ghost use Rattle.ped_steps.specs.ped_flow.specs.ped_base.specs.Lists.{is_among};
 ghost use Rattle.ped_steps.specs.ped_flow.specs.ped_tree.specs.Constants.NamedConstants.{value_named};
 ghost use Rattle.ped_steps.specs.ped_flow.specs.ped_tree.specs.NamesIn.{expr_names};
 ghost use Rattle.ped_steps.specs.ped_flow.specs.ped_tree.specs.Tree.{ExprTree, ExprTrees, Int, Var, Neg, Add, Sub, Mul, Head};
-ghost use Rattle.ped_steps.specs.ped_sums.specs.Sums.{literal, times_of};
+ghost use Rattle.ped_steps.specs.ped_symbolic.specs.Arithmetic.{literal, times_of};
 ghost use Rattle.ped_steps.specs.ped_store.specs.Cells.{Cell};
 ghost use Rattle.ped_steps.specs.ped_store.specs.Stores.{Store};
 ghost use Rattle.ped_steps.specs.ped_eval.specs.Loops.{Limits, limits};

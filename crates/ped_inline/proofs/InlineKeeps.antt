@@ -19,7 +19,7 @@ use Rattle.ped_rules.specs.ped_steps.specs.Runs.Gaps.{Gap, at_front, past, in_th
 use Rattle.ped_rules.specs.ped_steps.specs.Runs.Meaning.{Keeps}
 use Rattle.ped_rules.specs.ped_steps.specs.Runs.Renumbering.{IsRenumbered, IsToldBack, renumbered}
 use Rattle.ped_rules.specs.ped_steps.proofs.RunLaws.NamesKept.{occurs, occurs_append}
-use Rattle.ped_rules.specs.ped_steps.proofs.RunLaws.ExpandedNamesSites.{stmts_at}
+use Rattle.ped_rules.specs.ped_steps.proofs.RunLaws.NamesAtSites.{stmts_at}
 use Rattle.ped_rules.specs.ped_steps.proofs.RunLaws.RenumberedPrograms.{program_renumbered, ends_back, no_race_back, outcome_renumbered}
 use Rattle.ped_rules.specs.ped_loop_runs.proofs.PastingLaws.KeptMeaning.{shown_alike}
 use Rattle.ped_rules.specs.KeepMaps.{closed_up, opened_at}

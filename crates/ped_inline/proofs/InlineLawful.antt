@@ -7,7 +7,7 @@ use Rattle.ped_rules.specs.Lawful.{IsFaithful, IsLawful}
 use Rattle.ped_rules.specs.ped_loop_runs.specs.Unrejected.{IsTrusted}
 use Rattle.ped_rules.specs.ped_steps.specs.Causes.{none_forbids}
 use Rattle.ped_rules.specs.ped_steps.proofs.OneCause.{one_cause}
-use Rattle.ped_rules.specs.ped_graph.specs.Update.Fresh.{IsOneToOne}
+use Rattle.ped_rules.specs.ped_graph.specs.Keeping.{IsOneToOne}
 use Rattle.ped_inline.specs.Blocks.{IsBlock}
 use Rattle.ped_inline.specs.Inlining.{inlined, inline_kept, StandsAgainstInlining, inlining}
 use Rattle.ped_inline.proofs.InlineRules as rules

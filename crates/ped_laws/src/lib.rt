@@ -11,5 +11,4 @@ pub mod plain;
 pub mod runs;
 
 pub use ped_flow::{Flow, Reader, flow_of, loop_at};
-pub use ped_graph::update::{Delta, Keep, swap, update};
-pub use ped_graph::{Graph, NameRefusal, PairKey, Prepared, Symbols, prepare, symbols_of};
+pub use ped_graph::{Graph, Keep, NameRefusal, PairKey, Prepared, Symbols, prepare, symbols_of};

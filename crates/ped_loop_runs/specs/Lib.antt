@@ -1,6 +1,6 @@
 pub use Rattle.ped_bodies
 pub use Rattle.ped_bodies.specs.ped_steps
-pub use Rattle.ped_bodies.specs.ped_sums
+pub use Rattle.ped_bodies.specs.ped_symbolic
 pub use Rattle.ped_bodies.specs.ped_refs
 pub use Rattle.ped_bodies.specs.ped_edges
 pub use Rattle.ped_bodies.specs.ped_weaves

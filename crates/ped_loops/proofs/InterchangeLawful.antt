@@ -8,7 +8,7 @@ use Rattle.ped_rules.specs.ped_laws.proofs.ConflictLaws.CoveringRuns.{MakingLaw,
 use Rattle.ped_rules.specs.ped_eval.specs.Outcomes.{setting_of, IsRaceFree}
 use Rattle.ped_rules.specs.ped_graph.specs.Dependences.{AreEdges}
 use Rattle.ped_edges.specs.Edges.{Edge}
-use Rattle.ped_rules.specs.ped_graph.specs.Update.Fresh.{IsOneToOne}
+use Rattle.ped_rules.specs.ped_graph.specs.Keeping.{IsOneToOne}
 use Rattle.ped_rules.specs.ped_symbols.specs.Kinds.{kind_in}
 use Rattle.ped_rules.specs.ped_symbols.specs.NameRefusals.{IsValid}
 use Rattle.ped_rules.specs.ped_flow.specs.PlainBounds.{IsPlain, around_with, nest_round, setting_round}

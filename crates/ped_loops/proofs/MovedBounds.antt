@@ -9,7 +9,7 @@ use Rattle.ped_rules.specs.ped_loop_runs.specs.OneOut.{IsNextIn}
 use Rattle.ped_rules.specs.ped_steps.proofs.RunLaws.SubstitutedSums.{by_shape}
 use Rattle.ped_rules.specs.ped_flow.specs.PlainBounds.{IsPlain, IsPlainlyBuilt, Values}
 use Rattle.ped_rules.specs.ped_flow.specs.Questions.{LoopOf}
-use Rattle.ped_sums.specs.Sums.{added, is_zero, literal, literal_or, literal_value, minus_of, of_both, plus_of, small, subtracted}
+use Rattle.ped_symbolic.specs.Arithmetic.{added, is_zero, literal, literal_or, literal_value, minus_of, of_both, plus_of, small, subtracted}
 use Rattle.ped_tree.specs.Constants.ConstantExpressions.{binary_value, constant_value}
 use Rattle.ped_tree.specs.Constants.NamedConstants.{value_named}
 use Rattle.ped_tree.specs.Grammar.Fits.{expr_fits}

@@ -15,7 +15,7 @@ use Rattle.ped_rules.specs.ped_laws.specs.Acts.Orders.{IsIn}
 use Rattle.ped_rules.specs.ped_graph.specs.Dependences.{AreEdges}
 use Rattle.ped_rules.specs.ped_graph.specs.DependencePane as pane
 use Rattle.ped_edges.specs.Edges.{Edge}
-use Rattle.ped_rules.specs.ped_graph.specs.Update.Fresh.{IsOneToOne}
+use Rattle.ped_rules.specs.ped_graph.specs.Keeping.{IsOneToOne}
 use Rattle.ped_rules.specs.ped_graph.proofs.OnePane.{one_edges}
 use Rattle.ped_rules.specs.ped_symbols.specs.Declarations.{declared_in}
 use Rattle.ped_rules.specs.ped_symbols.specs.NameRefusals.{IsValid}

@@ -1,7 +1,7 @@
 -- A DO whose bounds are exchanged and whose increment, 1 or -1, is negated: it has the same iterations, from the last to the first.
 use Rattle.std.proofs.Common.{◌≡◌, ◌⊎◌, ℕ, suc, ◌+◌, ◌-◌, ◌≤◌, ℤ, pos, negsuc, neg_ℤ, ◌+ℤ◌, ◌*ℤ◌, List, [], ◌∷◌, ◌++◌, Bool, true, false, ◌||◌, Option, Some, Ok, refl, sym, ap, ◌∙◌, subst, inl, inr, arith, int_eq, unwrap_or}
 use Rattle.std.proofs.lemmas.Bool.Decides.{Decides-int_eq}
-use Rattle.ped_sums.specs.Sums.{literal}
+use Rattle.ped_symbolic.specs.Arithmetic.{literal}
 use Rattle.ped_tree.specs.Constants.ConstantExpressions.{constant_value}
 use Rattle.ped_tree.specs.Tree.{ExprTree, Head, StmtTrees}
 use Rattle.ped_rules.specs.ped_store.specs.Acts.{reads, Touch}

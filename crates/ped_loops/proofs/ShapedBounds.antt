@@ -17,8 +17,8 @@ use Rattle.ped_rules.specs.ped_loop_runs.specs.Bounds.{IsOfFixed}
 use Rattle.ped_rules.specs.ped_loop_runs.specs.Executions.{IsExecuted}
 use Rattle.ped_rules.specs.ped_bodies.proofs.BodyLaws.LimitParts.{limits_parted}
 use Rattle.ped_rules.specs.ped_bodies.specs.Trips.{HasLimits, entered_from}
-use Rattle.ped_rules.specs.ped_steps.proofs.RunLaws.ExpandedPlacesStand.{variable_scalar}
-use Rattle.ped_rules.specs.ped_steps.proofs.RunLaws.PrivatisedPrograms.{scalar_unvalued}
+use Rattle.ped_rules.specs.ped_steps.proofs.RunLaws.LoopVariables.{variable_scalar}
+use Rattle.ped_rules.specs.ped_steps.proofs.RunLaws.ScalarNames.{scalar_unvalued}
 use Rattle.ped_rules.specs.ped_steps.specs.Replacing.{alone}
 use Rattle.ped_rules.specs.ped_affine.specs.Ranges.{interval_of}
 use Rattle.ped_rules.specs.ped_store.specs.Storage.{natural}

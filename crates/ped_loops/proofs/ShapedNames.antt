@@ -6,7 +6,7 @@ use Rattle.ped_rules.proofs.NestLaws.WovenKinds.{occurs_in}
 use Rattle.ped_loops.specs.Shapes.{Shape, arguments_of, asked_above, asked_below, asked_if, difference, extreme_of, first_shape, free, is_turned, itself, last_shape, moved_bound, new_inner, new_outer, shape_of, sum, turned}
 use Rattle.ped_rules.specs.ped_steps.proofs.RunLaws.SubstitutedSums.{by_shape}
 use Rattle.ped_rules.specs.ped_laws.proofs.ActLaws.Renamings.{or_left, or_right}
-use Rattle.ped_sums.specs.Sums.{added, computed, is_zero, literal_or, literal_value, minus_of, of_both, plus_of, small, subtracted}
+use Rattle.ped_symbolic.specs.Arithmetic.{added, computed, is_zero, literal_or, literal_value, minus_of, of_both, plus_of, small, subtracted}
 use Rattle.ped_rules.specs.ped_symbols.specs.Uses.{expr_uses, exprs_uses, used_as}
 use Rattle.ped_rules.specs.ped_symbols.specs.declared.uses.Role.TheVariants.{Rejected}
 use Rattle.ped_tree.specs.Tree.{Add, ExprTree, Head, Sub, Var, no_stmts}

@@ -14,7 +14,7 @@ use Rattle.ped_rules.specs.ped_eval.specs.Scopes.{Names}
 use Rattle.ped_rules.specs.ped_eval.specs.Values.{binary, name_value, of_intrinsic, value, values, variable_value}
 use Rattle.ped_rules.specs.ped_store.specs.Cells.{Cell}
 use Rattle.ped_rules.specs.ped_store.specs.Stores.{Content, Store}
-use Rattle.ped_sums.specs.Sums.{minus_of, plus_of}
+use Rattle.ped_symbolic.specs.Arithmetic.{minus_of, plus_of}
 use Rattle.ped_tree.specs.Constants.ConstantExpressions.{intrinsic_result}
 use Rattle.ped_tree.specs.Constants.NamedConstants.{value_named}
 use Rattle.ped_tree.specs.Tree.{Call, ExprTree, ExprTrees, Head, Var}

@@ -13,7 +13,7 @@ use Rattle.ped_rules.specs.ped_eval.specs.Scopes.{Names, Scope, Setting, index_v
 use Rattle.ped_rules.specs.ped_eval.specs.Values.{value}
 use Rattle.ped_rules.specs.ped_store.specs.Cells.{Cell}
 use Rattle.ped_rules.specs.ped_store.specs.Stores.{Store}
-use Rattle.ped_sums.specs.Sums.{minus_of, plus_of}
+use Rattle.ped_symbolic.specs.Arithmetic.{minus_of, plus_of}
 use Rattle.ped_tree.specs.Constants.NamedConstants.{value_named}
 use Rattle.ped_tree.specs.Tree.{Add, ExprTree, ProgramTree, Sub, Var}
 use Rattle.std.proofs.Common.{List, None, Ok, Some, arith, inl, inr, neg_ℤ, pos, subst, ℕ, ℤ, ◌+ℤ◌, ◌-ℤ◌, ◌∙◌, ◌≡◌}

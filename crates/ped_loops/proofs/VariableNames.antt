@@ -19,7 +19,7 @@ use Rattle.ped_rules.specs.ped_symbols.specs.Sites.{Site, decl_sites, stmts_site
 use Rattle.ped_rules.specs.ped_symbols.specs.Kinds.{names_at}
 use Rattle.ped_rules.specs.ped_symbols.specs.NameRefusals.{Before, uses_real, uses_program, is_declared_twice, behind_site, at_site, at_sites, next_line, at_first, IsValid}
 use Rattle.ped_rules.specs.ped_symbols.proofs.RightUseLaws.Constants.{names_append}
-use Rattle.ped_rules.specs.ped_steps.proofs.RunLaws.ExpandedNamesSites.{at_append, stmts_at}
+use Rattle.ped_rules.specs.ped_steps.proofs.RunLaws.NamesAtSites.{at_append, stmts_at}
 
 -- no use makes a name a constant
 abbrev NamesNone : List Use → Type 0

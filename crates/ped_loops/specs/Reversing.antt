@@ -1,6 +1,6 @@
 -- `reverse`: the iterations of a DO are done from the last to the first (Allen and Kennedy, section 5.2; ParaScope).
 use Rattle.std.specs.Prelude.{◌≡◌, ℕ, neg_ℤ, List}
-use Rattle.ped_sums.specs.Sums.{literal}
+use Rattle.ped_symbolic.specs.Arithmetic.{literal}
 use Rattle.ped_tree.specs.Tree.{Head, StmtTrees, Do, ProgramTree}
 use Rattle.ped_rules.specs.Carried.{carried}
 use Rattle.ped_rules.specs.Chains.{no_rules, also, WhereLoop}

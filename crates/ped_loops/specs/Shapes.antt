@@ -5,7 +5,7 @@ use Rattle.ped_tree.specs.declared.expressions.Intrinsic.{Intrinsic}
 use Rattle.ped_tree.specs.declared.expressions.Intrinsic.TheVariants.{Max, Min}
 use Rattle.ped_tree.specs.Tree.{ExprTree, ExprTrees, Int, Var, Element, Neg, Add, Sub, Mul, Div, Pow, Call, no_exprs, more_exprs, Head}
 use Rattle.ped_tree.specs.NamesIn.{expr_names}
-use Rattle.ped_sums.specs.Sums.{plus_of, minus_of}
+use Rattle.ped_symbolic.specs.Arithmetic.{plus_of, minus_of}
 
 -- a bound of an inner DO: it doesn't name the outer variable I, or it is I, I+c or c+I, I-c, or c-I, where c doesn't name I (Allen and Kennedy, section 5.2)
 pub data Shape : Type 0 where

@@ -1,7 +1,7 @@
 //! `reverse`: the iterations of a DO are done from the last to the first.
 
 ghost use Rattle.std.specs.Prelude.{◌≡◌, ◌+◌, ◌<◌, ◌^◌, ℕ, [], true, false, Some, IfOk, MatchOption};
-ghost use Rattle.ped_sums.specs.Sums.{literal};
+ghost use Rattle.ped_symbolic.specs.Arithmetic.{literal};
 ghost use Rattle.ped_tree.specs.Constants.ConstantExpressions.{constant_value};
 ghost use Rattle.ped_tree.specs.Numbering.{statements_count};
 ghost use Rattle.ped_tree.specs.Tree as Tree;

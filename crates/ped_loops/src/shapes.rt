@@ -14,7 +14,7 @@ ghost use Rattle.ped_loops.specs.CodeInterchanging.{one_around, each_around};
 ghost use Rattle.ped_loops.specs.Interchanging.{with_exchanged};
 
 use ped_base::{Name, NoMemory, both};
-use ped_sums::{minus, plus};
+use ped_symbolic::{minus, plus};
 use ped_tree::{Do, Expr, Intrinsic, Stmt};
 use std::alloc::Global;
 

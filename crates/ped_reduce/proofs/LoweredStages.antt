@@ -13,7 +13,7 @@ use Rattle.ped_tree.specs.Tree.{Head, StmtTrees, Do, DeclaratorTree, DeclTree, I
 use Rattle.ped_tree.specs.Nests.{Loop}
 use Rattle.ped_tree.specs.NamesIn.{stmts_names}
 use Rattle.ped_tree.specs.Numbering.{statements_count, statement_with}
-use Rattle.ped_rules.specs.ped_sums.specs.Sums.{literal}
+use Rattle.ped_rules.specs.ped_symbolic.specs.Arithmetic.{literal}
 use Rattle.ped_rules.specs.ped_symbols.specs.Sites.{decl_sites, stmts_sites}
 use Rattle.ped_rules.specs.ped_symbols.specs.Kinds.{names_of}
 use Rattle.ped_rules.specs.ped_symbols.proofs.RightUseLaws.Whole.{names_occur}
@@ -22,7 +22,7 @@ use Rattle.ped_rules.specs.ped_flow.specs.PlainBounds.{all_loops_round, nest_rou
 use Rattle.ped_rules.specs.ped_flow.specs.Questions.{LoopOf}
 use Rattle.ped_rules.specs.ped_steps.specs.Replacing.{alone, all_replaced}
 use Rattle.ped_rules.specs.ped_steps.specs.Runs.Gaps.{Gap, filled, number_at}
-use Rattle.ped_rules.specs.ped_steps.proofs.RunLaws.ExpandedNamesSites.{stmts_at}
+use Rattle.ped_rules.specs.ped_steps.proofs.RunLaws.NamesAtSites.{stmts_at}
 use Rattle.ped_rules.specs.ped_steps.proofs.RunLaws.NamesKept as kept
 use Rattle.ped_rules.specs.ped_steps.proofs.RunLaws.ReplacedTrees.{HasGap, program_gap}
 use Rattle.ped_rules.specs.ped_laws.specs.Acts.Orders.{IsIn}

@@ -35,8 +35,8 @@ use Rattle.ped_rules.specs.ped_steps.specs.Replacing.{alone, all_replaced}
 use Rattle.ped_rules.specs.ped_steps.specs.Runs.Expanding.{array_bounds}
 use Rattle.ped_rules.specs.ped_steps.specs.Runs.Gaps.{Gap, at_front, past, in_then, in_else, in_body, filled}
 use Rattle.ped_rules.specs.ped_steps.proofs.RunLaws.ConstantBounds.{Counts, constant_counts, constant_step}
-use Rattle.ped_rules.specs.ped_steps.proofs.RunLaws.ExpandedNamesArrays.{kind_same}
-use Rattle.ped_rules.specs.ped_steps.proofs.RunLaws.ExpandedNamesSites.{stmts_at}
+use Rattle.ped_rules.specs.ped_steps.proofs.RunLaws.DeclaredArrays.{kind_same}
+use Rattle.ped_rules.specs.ped_steps.proofs.RunLaws.NamesAtSites.{stmts_at}
 use Rattle.ped_rules.specs.ped_steps.proofs.RunLaws.NamesKept.{occurs, occurs_append}
 use Rattle.ped_rules.specs.ped_loop_runs.specs.Statements.{GivesWay}
 use Rattle.ped_rules.specs.ped_loop_runs.proofs.PastingLaws.OneStatement.{gives_way}

@@ -15,7 +15,7 @@ use Rattle.ped_rules.specs.ped_symbols.specs.declared.symbols.Kind.TheVariants.{
 use Rattle.ped_rules.specs.ped_flow.proofs.Truths.{untrue, or_split}
 use Rattle.ped_rules.specs.ped_laws.specs.Acts.Orders.{IsIn}
 use Rattle.ped_rules.specs.ped_steps.specs.Runs.Expanding.{array_decl, array_bounds}
-use Rattle.ped_rules.specs.ped_steps.proofs.RunLaws.ExpandedNamesArrays.{names_more, names_besides, array_named, values_same, kind_same, kind_there}
+use Rattle.ped_rules.specs.ped_steps.proofs.RunLaws.DeclaredArrays.{names_more, names_besides, array_named, values_same, kind_same, kind_there}
 use Rattle.ped_rules.specs.Spans.{Span}
 use Rattle.ped_reduce.specs.Lowering.{Partials, declarations}
 use Rattle.ped_reduce.proofs.SumStores.{is_array_of, is_array, AreDistinct, AreThree, high_array, low_array, flag_array}

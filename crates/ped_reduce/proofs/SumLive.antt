@@ -15,7 +15,7 @@ use Rattle.ped_tree.specs.Tree.{ExprTree, Int, Var, Element, Neg, Add, Sub, Mul,
 use Rattle.ped_rules.specs.ped_affine.specs.Assigned.{assigned_in_all}
 use Rattle.ped_rules.specs.ped_affine.specs.PairViews.{heads_of}
 use Rattle.ped_refs.specs.References.{Reference, statements_references, references}
-use Rattle.ped_rules.specs.ped_sums.specs.Substitution as substitution
+use Rattle.ped_rules.specs.ped_symbolic.specs.Substitution as substitution
 use Rattle.ped_rules.specs.ped_symbols.specs.Kinds.{kind_in, names_of, table_of}
 use Rattle.ped_rules.specs.ped_symbols.specs.NameRefusals.{IsValid, has_twice}
 use Rattle.ped_rules.specs.ped_symbols.specs.RightUses.RightUses.{is_scalar, expr_is_right, target_is_right, head_is_right, stmts_are_right}
@@ -26,8 +26,8 @@ use Rattle.ped_rules.specs.ped_laws.specs.Acts.Orders.{IsIn}
 use Rattle.ped_rules.specs.ped_laws.proofs.FlowRunLaws.Standing.{Stand, whole_stands, first_stands, inner_stands, is_there}
 use Rattle.ped_rules.specs.ped_steps.specs.Replacing.{alone}
 use Rattle.ped_rules.specs.ped_steps.specs.declared.rules.Rule.TheVariants.{ParallelState, IndexEscapes, NotScalar, AlreadyPrivate}
-use Rattle.ped_rules.specs.ped_steps.proofs.RunLaws.ExpandedPlacesParts.{part_at}
-use Rattle.ped_rules.specs.ped_steps.proofs.RunLaws.PrivatisedPrograms.{scalar_named}
+use Rattle.ped_rules.specs.ped_steps.proofs.RunLaws.ProgramParts.{part_at}
+use Rattle.ped_rules.specs.ped_steps.proofs.RunLaws.ScalarNames.{scalar_named}
 use Rattle.ped_rules.specs.ped_steps.proofs.RunLaws.SparedVariables.{IsUnassigned, variables_unassigned}
 use Rattle.ped_rules.specs.ped_loop_runs.proofs.TidyLaws.TidyReferencesGaps.{all_at}
 use Rattle.ped_rules.specs.Spans.{Span, span_of, spans_far}

@@ -31,11 +31,11 @@ use Rattle.ped_rules.specs.ped_store.specs.Acts.{Turn}
 use Rattle.ped_rules.specs.ped_laws.specs.Acts.Orders.{IsIn}
 use Rattle.ped_rules.specs.ped_eval.specs.Outcomes.{setting_of}
 use Rattle.ped_rules.specs.ped_eval.specs.Scopes.{Scope, cell_of, index_value}
-use Rattle.ped_rules.specs.ped_steps.proofs.RunLaws.ExpandedPlaces.{untold_at}
-use Rattle.ped_rules.specs.ped_steps.proofs.RunLaws.ExpandedPlacesParts.{IsPart, part_at}
-use Rattle.ped_rules.specs.ped_steps.proofs.RunLaws.ExpandedPlacesStand.{variable_scalar, step_not_zero}
+use Rattle.ped_rules.specs.ped_steps.proofs.RunLaws.UntoldVariables.{untold_at}
+use Rattle.ped_rules.specs.ped_steps.proofs.RunLaws.ProgramParts.{IsPart, part_at}
+use Rattle.ped_rules.specs.ped_steps.proofs.RunLaws.LoopVariables.{variable_scalar, step_not_zero}
 use Rattle.ped_rules.specs.ped_steps.proofs.RunLaws.OwnCells.{own_cell}
-use Rattle.ped_rules.specs.ped_steps.proofs.RunLaws.PrivatisedPrograms.{scalar_unvalued}
+use Rattle.ped_rules.specs.ped_steps.proofs.RunLaws.ScalarNames.{scalar_unvalued}
 use Rattle.ped_reduce.proofs.SumTrips.{IsCalm}
 
 -- no turn is one of a PARALLEL DO, where no loop is one

@@ -9,7 +9,7 @@ use Rattle.ped_base.proofs.NameEquality.{same_is, same_itself}
 use Rattle.ped_tree.specs.Tree.{ExprTree, Int, Var, Element, Neg, Add, Sub, Mul, Div, Pow, Call, CondTree, ItemTree, Head, StmtTree, StmtTrees, Assign, If, Do, Print, Read, Stop, Comment, no_stmts, more_stmts}
 use Rattle.ped_tree.specs.NamesIn.{expr_names, cond_names, all_loop_variables}
 use Rattle.ped_tree.specs.Numbering.{statement_count, statements_count}
-use Rattle.ped_rules.specs.ped_sums.specs.Substitution.{has_scalar, is_scalar}
+use Rattle.ped_rules.specs.ped_symbolic.specs.Substitution.{has_scalar, is_scalar}
 use Rattle.ped_rules.specs.ped_steps.specs.Replacing.{alone}
 use Rattle.ped_rules.specs.ped_store.specs.Cells.{Cell, Private}
 use Rattle.ped_rules.specs.ped_store.specs.Stores.{Store}

@@ -6,7 +6,7 @@ use Rattle.ped_base.proofs.NameEquality.{same_itself, same_is}
 use Rattle.ped_tree.specs.Tree.{ExprTree, Int, Var, Element, Neg, Add, Sub, Mul, Div, Pow, Call, StmtTrees, Assign}
 use Rattle.ped_rules.specs.ped_flow.proofs.Truths.{untrue, not_true}
 use Rattle.ped_rules.specs.ped_steps.specs.Replacing.{alone}
-use Rattle.ped_rules.specs.ped_sums.specs.Substitution.{has_scalar, is_scalar}
+use Rattle.ped_rules.specs.ped_symbolic.specs.Substitution.{has_scalar, is_scalar}
 use Rattle.ped_rules.specs.ped_laws.specs.Acts.Orders.{IsIn}
 use Rattle.ped_reduce.specs.Sums.{Sum, plus, minus, sum_of, sum_to}
 use Rattle.ped_reduce.specs.Lowering.{Partials, added_apart, apart_or, sum_apart}

@@ -18,7 +18,7 @@ use Rattle.ped_rules.specs.ped_symbols.specs.declared.symbols.Kind.TheVariants.{
 use Rattle.ped_rules.specs.ped_symbols.specs.Uses.{expr_count}
 use Rattle.ped_rules.specs.ped_symbols.specs.RightUses.RightUses.{NameKinds, is_scalar_kind, is_array_kind, is_scalar, has_rank, is_rank, expr_is_right, exprs_are_right, target_is_right, cond_is_right, head_is_right, stmt_is_right, stmts_are_right}
 use Rattle.ped_rules.specs.ped_flow.proofs.Truths.{untrue, or_none}
-use Rattle.ped_rules.specs.ped_sums.specs.Substitution.{has_scalar, have_scalar}
+use Rattle.ped_rules.specs.ped_symbolic.specs.Substitution.{has_scalar, have_scalar}
 use Rattle.ped_rules.specs.ped_laws.specs.Acts.Orders.{IsIn}
 use Rattle.ped_rules.specs.ped_laws.proofs.ActLaws.Lists.{in_left, in_right, in_parts}
 use Rattle.ped_rules.specs.ped_laws.proofs.ConflictLaws.CoveringWrites.{own_access}

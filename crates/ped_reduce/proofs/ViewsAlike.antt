@@ -20,7 +20,7 @@ use Rattle.ped_rules.specs.ped_flow.proofs.Truths.{untrue, not_true, or_split}
 use Rattle.ped_rules.specs.ped_flow.specs.PlainBounds.{nest_round}
 use Rattle.ped_rules.specs.ped_flow.specs.Questions.{LoopOf}
 use Rattle.ped_rules.specs.ped_steps.specs.Replacing.{alone}
-use Rattle.ped_rules.specs.ped_steps.proofs.RunLaws.PrivatisedPrograms.{scalar_named}
+use Rattle.ped_rules.specs.ped_steps.proofs.RunLaws.ScalarNames.{scalar_named}
 use Rattle.ped_reduce.specs.Lists.{without_list}
 use Rattle.ped_reduce.specs.Lowering.{Partials, lowered_loop}
 use Rattle.ped_reduce.specs.Reducing.{sum_at}

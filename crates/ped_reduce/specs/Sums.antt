@@ -1,7 +1,7 @@
 -- Statements that add to a scalar, or take away from it (Allen and Kennedy, section 5.6).
 use Rattle.std.specs.Prelude.{ℕ, List, not, ◌&&◌, Option, Some, None, if◌then◌else◌}
 use Rattle.ped_tree.specs.Tree.{ExprTree, Add, Sub, StmtTree, Assign}
-use Rattle.ped_rules.specs.ped_sums.specs.Substitution.{has_scalar, is_scalar}
+use Rattle.ped_rules.specs.ped_symbolic.specs.Substitution.{has_scalar, is_scalar}
 
 -- what a statement adds to a scalar, or takes away from it
 pub data Sum : Type 0 where

@@ -3,7 +3,7 @@
 ghost use Rattle.std.specs.Prelude.{◌≡◌, map, option_map};
 ghost use Rattle.ped_base.specs.Lists.{is_same_text};
 ghost use Rattle.ped_tree.specs.Views.{expr_tree, stmt_tree, pack_exprs};
-ghost use Rattle.ped_rules.specs.ped_sums.specs.Substitution as Substitution;
+ghost use Rattle.ped_rules.specs.ped_symbolic.specs.Substitution as Substitution;
 ghost use Rattle.ped_reduce.specs.Sums as Spec;
 ghost use Rattle.ped_reduce.specs.CodeSums.{sum_view};
 

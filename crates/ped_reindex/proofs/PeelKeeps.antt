@@ -16,7 +16,7 @@ use Rattle.ped_rules.specs.ped_loop_runs.specs.Pasting.{CountAlike, DoInstead, S
 use Rattle.ped_rules.specs.ped_loop_runs.specs.Statements.{GivesWay}
 use Rattle.ped_rules.specs.ped_bodies.proofs.BodyLaws.Rewritings.{may_give_way}
 use Rattle.ped_rules.specs.ped_bodies.specs.Rewriting.{HaveIncrements, MayBeRewritten, OfHeads}
-use Rattle.ped_rules.specs.ped_steps.proofs.RunLaws.ExpandedPlacesParts.{part_at}
+use Rattle.ped_rules.specs.ped_steps.proofs.RunLaws.ProgramParts.{part_at}
 use Rattle.ped_rules.specs.ped_steps.proofs.RunLaws.RunCells.{EachDos}
 use Rattle.ped_rules.specs.ped_steps.proofs.RunLaws.SparedVariables.{IsUnassigned, variables_unassigned}
 use Rattle.ped_rules.specs.ped_steps.proofs.RunLaws.SubstitutedShapes.{counts_kept}
@@ -39,8 +39,8 @@ use Rattle.ped_rules.specs.ped_eval.specs.Runs.{Run, run, run_all}
 use Rattle.ped_rules.specs.ped_eval.specs.Scopes.{Scope, Setting}
 use Rattle.ped_rules.specs.ped_store.specs.Acts.{Act}
 use Rattle.ped_rules.specs.ped_store.specs.Stores.{Store, store_at_start}
-use Rattle.ped_sums.specs.Substitution.{substituted}
-use Rattle.ped_sums.specs.Sums.{literal}
+use Rattle.ped_symbolic.specs.Substitution.{substituted}
+use Rattle.ped_symbolic.specs.Arithmetic.{literal}
 use Rattle.ped_rules.specs.ped_symbols.proofs.RightUseLaws.Whole.{others_unvalued, same_values}
 use Rattle.ped_rules.specs.ped_symbols.specs.Kinds.{kind_in, table_of}
 use Rattle.ped_rules.specs.ped_symbols.specs.NameRefusals.{IsValid}

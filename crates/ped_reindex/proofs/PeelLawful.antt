@@ -8,7 +8,7 @@ use Rattle.ped_rules.specs.Lawful.{IsFaithful, IsLawful}
 use Rattle.ped_rules.specs.ped_loop_runs.specs.Unrejected.{IsTrusted}
 use Rattle.ped_rules.specs.ped_steps.specs.Causes.{NoRule}
 use Rattle.ped_rules.specs.ped_flow.specs.Questions.{LoopOf}
-use Rattle.ped_rules.specs.ped_graph.specs.Update.Fresh.{IsOneToOne}
+use Rattle.ped_rules.specs.ped_graph.specs.Keeping.{IsOneToOne}
 use Rattle.ped_rules.specs.ped_symbols.specs.Kinds.{table_of}
 use Rattle.ped_rules.specs.ped_symbols.specs.NameRefusals.{IsValid}
 use Rattle.ped_reindex.proofs.Determined.{determined_peel}

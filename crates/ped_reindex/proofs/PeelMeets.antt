@@ -10,8 +10,7 @@ use Rattle.ped_rules.specs.ped_bodies.proofs.BodyLaws.MovedCells.{moved_names}
 use Rattle.ped_rules.specs.ped_bodies.specs.Likewise.{IsOnlyTold, Meet, NamesScalars}
 use Rattle.ped_rules.specs.ped_bodies.specs.Moving.{own_number, peeled}
 use Rattle.ped_rules.specs.ped_bodies.specs.Trips.{bounds_seen, entered_from, loop_acts}
-use Rattle.ped_rules.specs.ped_steps.proofs.RunLaws.ExpandedRacesOrigins.{touch_of}
-use Rattle.ped_rules.specs.ped_steps.proofs.RunLaws.PrivatisedRacesOrigins.{accesses_from}
+use Rattle.ped_rules.specs.ped_steps.proofs.RunLaws.AccessTouches.{touch_of, accesses_from}
 use Rattle.ped_rules.specs.ped_steps.specs.Replacing.{alone}
 use Rattle.ped_rules.specs.ped_steps.specs.Runs.Renumbering.{IsToldBack, renumbered, renumbered_turn}
 use Rattle.ped_rules.specs.ped_flow.specs.Questions.{IsContained, LoopOf}

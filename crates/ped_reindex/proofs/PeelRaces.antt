@@ -4,7 +4,7 @@ use Rattle.ped_rules.proofs.NestLaws.ExchangedRaces.{RaceBefore}
 use Rattle.ped_rules.specs.ped_loop_runs.proofs.LoopLaws.ChangedPairs.{Change, Give, in_acts, pairs_give}
 use Rattle.ped_rules.specs.ped_loop_runs.specs.Executions.{IsExecuted, LeaveCopies, StandsInside}
 use Rattle.ped_rules.specs.ped_loop_runs.specs.Pasting.{AreExchanged, IsExchanged}
-use Rattle.ped_rules.specs.ped_steps.proofs.RunLaws.PrivatisedRacesOrigins.{accesses_from}
+use Rattle.ped_rules.specs.ped_steps.proofs.RunLaws.AccessTouches.{accesses_from}
 use Rattle.ped_rules.specs.ped_steps.specs.Runs.Renumbering.{IsToldBack, renumbered}
 use Rattle.ped_rules.specs.ped_flow.specs.PlainBounds.{nest_round}
 use Rattle.ped_rules.specs.ped_laws.proofs.ActLaws.Conflicting.{access_place}

@@ -22,8 +22,8 @@ use Rattle.ped_rules.specs.ped_eval.specs.Scopes.{Scope, Setting, names_in, plac
 use Rattle.ped_rules.specs.ped_store.specs.Acts.{Act, iterations_of}
 use Rattle.ped_rules.specs.ped_store.specs.Cells.{Cell}
 use Rattle.ped_rules.specs.ped_store.specs.Stores.{Store}
-use Rattle.ped_sums.specs.Substitution.{statements_substituted, substituted}
-use Rattle.ped_sums.specs.Sums.{literal}
+use Rattle.ped_symbolic.specs.Substitution.{statements_substituted, substituted}
+use Rattle.ped_symbolic.specs.Arithmetic.{literal}
 use Rattle.ped_rules.proofs.NameLaws.ConstantBounds.{constant_limits_come, literal_constant, near_bound, near_in_range}
 use Rattle.ped_reindex.proofs.PeelCounts.{HasSpan, first_count, last_count, next_value}
 use Rattle.ped_reindex.proofs.PeelNumbers.{copied}

@@ -15,7 +15,7 @@ use Rattle.ped_rules.specs.ped_bodies.proofs.BodyLaws.MovedCells.{place_stays}
 use Rattle.ped_rules.specs.ped_bodies.proofs.BodyLaws.TripLists.{close_in_order}
 use Rattle.ped_rules.specs.ped_bodies.specs.Moving.{is_cell_among, own_number, peeled}
 use Rattle.ped_rules.specs.ped_bodies.specs.Trips.{IsTrip, bounds_seen, entered_from, loop_acts, loop_entry, trip_end, trips}
-use Rattle.ped_rules.specs.ped_steps.proofs.RunLaws.ExpandedRacesOrigins.{write_in}
+use Rattle.ped_rules.specs.ped_steps.proofs.RunLaws.AccessTouches.{write_in}
 use Rattle.ped_rules.specs.ped_steps.proofs.RunLaws.SubstitutedShapes.{counts_kept}
 use Rattle.ped_rules.specs.ped_steps.specs.Replacing.{alone}
 use Rattle.ped_rules.specs.ped_steps.specs.Runs.Renumbering.{renumbered}
@@ -45,7 +45,7 @@ use Rattle.ped_rules.specs.ped_eval.specs.Scopes.{Scope, Setting, cell_of, place
 use Rattle.ped_rules.specs.ped_store.specs.Acts.{Act, Place, Touch, iterations_of, reads}
 use Rattle.ped_rules.specs.ped_store.specs.Cells.{Cell, Element, In, Iteration, Out, Private, Scalar}
 use Rattle.ped_rules.specs.ped_store.specs.Stores.{Store, store_at_start}
-use Rattle.ped_sums.specs.Sums.{literal}
+use Rattle.ped_symbolic.specs.Arithmetic.{literal}
 use Rattle.ped_rules.specs.ped_symbols.specs.NameRefusals.{IsValid}
 use Rattle.ped_rules.specs.ped_weaves.proofs.WeaveLaws.CountedActs.{counted_needed, counted_touched}
 use Rattle.ped_rules.specs.ped_weaves.proofs.WeaveLaws.KnotRows.{blocks_append, blocks_rows, in_row, knotted_append, knotted_rows}

@@ -11,7 +11,7 @@ use Rattle.ped_rules.specs.ped_loop_runs.specs.Exchanges.{Exchange, IsExchanged,
 use Rattle.ped_rules.specs.ped_loop_runs.specs.Unrejected.{IsTrusted, has_rejection, some_rejection}
 use Rattle.ped_rules.specs.ped_loop_runs.specs.Writing.{all_write, some_write_index, writes, writes_index, writes_name}
 use Rattle.ped_rules.specs.ped_steps.proofs.OnePlace.{one_program}
-use Rattle.ped_rules.specs.ped_steps.proofs.RunLaws.ExpandedPlacesParts.{part_at}
+use Rattle.ped_rules.specs.ped_steps.proofs.RunLaws.ProgramParts.{part_at}
 use Rattle.ped_rules.specs.ped_steps.proofs.RunLaws.ReplacedTrees.{HasGap, program_gap}
 use Rattle.ped_rules.specs.ped_steps.specs.Replacing.{alone, followed, program_with}
 use Rattle.ped_rules.specs.ped_flow.proofs.Truths.{untrue}
@@ -19,7 +19,7 @@ use Rattle.ped_rules.specs.ped_flow.specs.Questions.{IsContained, IsShownBehind,
 use Rattle.ped_rules.specs.ped_flow.specs.Summaries.{summary_of, summary_of_all}
 use Rattle.ped_rules.specs.ped_laws.proofs.FlowRunLaws.Stopping.{fitting_stops, loop_stops}
 use Rattle.ped_rules.specs.ped_laws.specs.FlowRuns.Covering.{has_stop, some_stop}
-use Rattle.ped_sums.specs.Sums.{literal}
+use Rattle.ped_symbolic.specs.Arithmetic.{literal}
 use Rattle.ped_rules.specs.ped_symbols.specs.Kinds.{kind_in}
 use Rattle.ped_rules.specs.ped_symbols.specs.NameRefusals.{IsValid}
 use Rattle.ped_rules.specs.ped_symbols.specs.RightUses.RightUses.{head_is_right, stmts_are_right}

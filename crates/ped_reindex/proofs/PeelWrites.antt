@@ -2,7 +2,7 @@
 use Rattle.ped_rules.specs.ped_loop_runs.specs.Writing.{writes_left}
 use Rattle.ped_rules.specs.ped_steps.specs.Replacing.{followed}
 use Rattle.ped_rules.specs.ped_laws.specs.FlowRuns.Covering.{has_stop, some_stop}
-use Rattle.ped_sums.specs.Sums.{literal}
+use Rattle.ped_symbolic.specs.Arithmetic.{literal}
 use Rattle.ped_tree.specs.Tree.{Int, Neg, StmtTrees, more_stmts, no_stmts}
 use Rattle.std.proofs.Common.{Bool, List, ap, false, if◌then◌else◌, refl, true, unsigned_abs, ℕ, ℤ, ◌||◌, ◌∙◌, ◌≡◌}
 use Rattle.std.specs.Int.{is_negative}

@@ -6,18 +6,18 @@ use Rattle.std.proofs.lemmas.Bool.{and_parts, or_parts}
 use Rattle.ped_tree.specs.Accesses.{constant_names}
 use Rattle.ped_tree.specs.NamesIn.{all_loop_variables}
 use Rattle.ped_tree.specs.Tree.{ExprTree, Var, Add, Sub, Head, StmtTrees, Do, ProgramTree}
-use Rattle.ped_rules.specs.ped_graph.specs.Update.Fresh.{IsOneToOne}
+use Rattle.ped_rules.specs.ped_graph.specs.Keeping.{IsOneToOne}
 use Rattle.ped_rules.specs.ped_laws.specs.Acts.Sets.{nothing}
 use Rattle.ped_rules.specs.ped_eval.specs.Outcomes.{setting_of}
 use Rattle.ped_rules.specs.ped_flow.specs.Questions.{LoopOf}
 use Rattle.ped_rules.specs.ped_symbols.specs.Kinds.{kind_in}
 use Rattle.ped_rules.specs.ped_symbols.specs.NameRefusals.{IsValid}
 use Rattle.ped_rules.specs.ped_symbols.specs.RightUses.RightUses.{head_is_right, stmts_are_right}
-use Rattle.ped_sums.specs.Substitution.{statements_substituted}
+use Rattle.ped_symbolic.specs.Substitution.{statements_substituted}
 use Rattle.ped_rules.specs.ped_steps.specs.Causes.{NoRule}
 use Rattle.ped_rules.specs.ped_steps.specs.Replacing.{alone, program_with}
 use Rattle.ped_rules.specs.ped_steps.proofs.OnePlace.{one_program}
-use Rattle.ped_rules.specs.ped_steps.proofs.RunLaws.ExpandedPlacesParts.{part_at}
+use Rattle.ped_rules.specs.ped_steps.proofs.RunLaws.ProgramParts.{part_at}
 use Rattle.ped_rules.specs.ped_steps.proofs.RunLaws.SubstitutedShapes.{counts_kept, indices_kept}
 use Rattle.ped_rules.specs.ped_loop_runs.specs.Unrejected.{IsTrusted}
 use Rattle.ped_rules.specs.ped_loop_runs.specs.Writing.{writes_left}

@@ -15,7 +15,7 @@ use Rattle.ped_rules.specs.ped_laws.proofs.ActLaws.Lists.{in_left, in_right, in_
 use Rattle.ped_rules.specs.ped_laws.proofs.ActLaws.OfCells.{stays_first, goes_first, cells_append}
 use Rattle.ped_rules.specs.ped_laws.proofs.ActLaws.Conflicting.{access_by, access_in}
 use Rattle.ped_rules.specs.ped_steps.specs.Runs.Renumbering.{renumbered_turn}
-use Rattle.ped_rules.specs.ped_steps.proofs.RunLaws.ExpandedRacesOrigins.{touch_of}
+use Rattle.ped_rules.specs.ped_steps.proofs.RunLaws.AccessTouches.{touch_of}
 use Rattle.ped_rules.specs.ped_bodies.specs.Likewise.{Meet, AllMeet, AreLikewise, IsOnlyTold}
 use Rattle.ped_rules.specs.ped_bodies.specs.Moving.{own_number}
 use Rattle.ped_rules.specs.ped_bodies.proofs.BodyLaws.LikewiseActs.{cells_without, filter_first, filter_other}

@@ -44,11 +44,11 @@ use Rattle.ped_rules.specs.ped_eval.specs.Runs.{run}
 use Rattle.ped_rules.specs.ped_eval.specs.Scopes.{Setting, Scope, Names, index_value, names_in, place_of}
 use Rattle.ped_rules.specs.ped_eval.specs.Values.{value}
 use Rattle.ped_rules.specs.ped_steps.specs.Replacing.{alone}
-use Rattle.ped_sums.specs.Substitution.{substituted, statements_substituted}
-use Rattle.ped_rules.specs.ped_steps.proofs.RunLaws.ExpandedPlaces.{untold_at}
-use Rattle.ped_rules.specs.ped_steps.proofs.RunLaws.ExpandedPlacesParts.{IsPart, part_at}
-use Rattle.ped_rules.specs.ped_steps.proofs.RunLaws.ExpandedPlacesStand.{variable_scalar, variable_outside}
-use Rattle.ped_rules.specs.ped_steps.proofs.RunLaws.PrivatisedPrograms.{scalar_unvalued}
+use Rattle.ped_symbolic.specs.Substitution.{substituted, statements_substituted}
+use Rattle.ped_rules.specs.ped_steps.proofs.RunLaws.UntoldVariables.{untold_at}
+use Rattle.ped_rules.specs.ped_steps.proofs.RunLaws.ProgramParts.{IsPart, part_at}
+use Rattle.ped_rules.specs.ped_steps.proofs.RunLaws.LoopVariables.{variable_scalar, variable_outside}
+use Rattle.ped_rules.specs.ped_steps.proofs.RunLaws.ScalarNames.{scalar_unvalued}
 use Rattle.ped_rules.specs.ped_steps.proofs.RunLaws.SparedVariables.{IsUnassigned, variables_unassigned}
 use Rattle.ped_rules.specs.ped_loop_runs.proofs.TidyLaws.TidyReferencesGaps.{each_of_program}
 use Rattle.ped_rules.specs.ped_bodies.specs.Likewise.{AllMeet, AreSeenAlike}

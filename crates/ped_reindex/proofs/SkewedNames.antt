@@ -12,14 +12,14 @@ use Rattle.ped_rules.specs.ped_symbols.specs.Kinds.{names_of, kind_in}
 use Rattle.ped_rules.specs.ped_symbols.specs.NameRefusals.{IsValid}
 use Rattle.ped_rules.specs.ped_symbols.specs.Sites.{stmt_sites, stmts_sites}
 use Rattle.ped_rules.specs.ped_symbols.proofs.RightUseLaws.Whole.{same_kinds}
-use Rattle.ped_sums.specs.Sums.{literal_value, of_both, small, computed, literal_or, is_zero, added, subtracted, plus_of, minus_of}
-use Rattle.ped_sums.specs.Substitution.{statements_substituted}
+use Rattle.ped_symbolic.specs.Arithmetic.{literal_value, of_both, small, computed, literal_or, is_zero, added, subtracted, plus_of, minus_of}
+use Rattle.ped_symbolic.specs.Substitution.{statements_substituted}
 use Rattle.ped_rules.specs.ped_steps.specs.Replacing.{alone, program_with}
 use Rattle.ped_rules.specs.ped_steps.proofs.RunLaws.NamesKept.{occurs, Alike, AreAlike, by_sites, names_kept}
-use Rattle.ped_rules.specs.ped_steps.proofs.RunLaws.ExpandedNamesSites.{stmt_at}
-use Rattle.ped_rules.specs.ped_steps.proofs.RunLaws.ExpandedNamesSubstituted.{in_stmts}
-use Rattle.ped_rules.specs.ped_steps.proofs.RunLaws.ExpandedPlacesStand.{variable_scalar}
-use Rattle.ped_rules.specs.ped_steps.proofs.RunLaws.PrivatisedPrograms.{scalar_occurs, statement_in}
+use Rattle.ped_rules.specs.ped_steps.proofs.RunLaws.NamesAtSites.{stmt_at}
+use Rattle.ped_rules.specs.ped_steps.proofs.RunLaws.SubstitutedNames.{in_stmts}
+use Rattle.ped_rules.specs.ped_steps.proofs.RunLaws.LoopVariables.{variable_scalar}
+use Rattle.ped_rules.specs.ped_steps.proofs.RunLaws.ScalarNames.{scalar_occurs, statement_in}
 use Rattle.ped_rules.specs.ped_steps.proofs.RunLaws.SubstitutedSums.{by_shape}
 use Rattle.ped_tree.proofs.NameLaws.Collected.{among_append}
 use Rattle.ped_rules.specs.OnlyLoops.{only_loop}

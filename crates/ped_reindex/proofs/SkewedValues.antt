@@ -18,7 +18,7 @@ use Rattle.ped_rules.specs.ped_eval.specs.Evaluation.{Evaluated, by_number}
 use Rattle.ped_rules.specs.ped_eval.specs.Loops.{is_bound, iteration_count}
 use Rattle.ped_rules.specs.ped_eval.specs.Scopes.{Setting, Scope, Names, index_value, names_in}
 use Rattle.ped_rules.specs.ped_eval.specs.Values.{binary, value}
-use Rattle.ped_sums.specs.Sums.{plus_of, minus_of}
+use Rattle.ped_symbolic.specs.Arithmetic.{plus_of, minus_of}
 use Rattle.ped_rules.specs.ped_steps.proofs.RunLaws.SubstitutedSums.{evaluated, plus_comes, minus_comes}
 use Rattle.ped_rules.specs.ped_bodies.specs.Moving.{ToldInside}
 use Rattle.ped_rules.specs.ped_bodies.proofs.BodyLaws.StandingPlaces.{times_told, variable_told, itself_told, sum_told, difference_told}

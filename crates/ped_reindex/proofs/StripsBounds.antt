@@ -20,7 +20,7 @@ use Rattle.ped_rules.specs.ped_eval.specs.Scopes.{Names, Scope, Setting, cell_of
 use Rattle.ped_rules.specs.ped_eval.specs.Values.{binary, name_value, of_intrinsic, value, values, variable_value}
 use Rattle.ped_rules.specs.ped_store.specs.Cells.{Cell}
 use Rattle.ped_rules.specs.ped_store.specs.Stores.{Content, Store}
-use Rattle.ped_sums.specs.Sums.{literal, plus_of}
+use Rattle.ped_symbolic.specs.Arithmetic.{literal, plus_of}
 use Rattle.ped_rules.specs.ped_views.proofs.Products.{linear}
 use Rattle.ped_reindex.proofs.StripsNumbers.{IsStrip, is_strip, strip_first, strip_last, strips}
 use Rattle.ped_rules.proofs.NameLaws.UnnamedCells.{UnnamedHead, neither, unnamed_head}

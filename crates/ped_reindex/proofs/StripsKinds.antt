@@ -5,9 +5,9 @@ use Rattle.ped_base.specs.Lists.{is_among, is_same_text}
 use Rattle.ped_rules.specs.ped_loop_runs.proofs.LoopLaws.OneForOneNames.{constant_there}
 use Rattle.ped_rules.proofs.HeadLaws.HeadNames.{among_both, head_uses, literal_unnamed, names_in, unnamed}
 use Rattle.ped_rules.proofs.NestLaws.WovenKinds.{in_both, in_loop, occurs_in}
-use Rattle.ped_rules.specs.ped_steps.proofs.RunLaws.ExpandedPlacesStand.{variable_scalar}
+use Rattle.ped_rules.specs.ped_steps.proofs.RunLaws.LoopVariables.{variable_scalar}
 use Rattle.ped_rules.specs.ped_steps.proofs.RunLaws.NamesKept.{Alike, AreAlike, alike_itself, by_sites, names_kept, occurs}
-use Rattle.ped_rules.specs.ped_steps.proofs.RunLaws.PrivatisedPrograms.{scalar_occurs, statement_in}
+use Rattle.ped_rules.specs.ped_steps.proofs.RunLaws.ScalarNames.{scalar_occurs, statement_in}
 use Rattle.ped_rules.specs.ped_steps.specs.Replacing.{alone, program_with}
 use Rattle.ped_rules.specs.ped_flow.specs.Questions.{LoopOf}
 use Rattle.ped_rules.specs.ped_symbols.proofs.RightUseLaws.Quiet.{behind_append, said, said_stays, stmts_declare_nothing}

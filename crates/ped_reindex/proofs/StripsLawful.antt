@@ -25,7 +25,7 @@ use Rattle.ped_rules.specs.ped_steps.specs.Replacing.{program_with}
 use Rattle.ped_rules.specs.ped_flow.specs.PlainBounds.{IsPlain}
 use Rattle.ped_rules.specs.ped_flow.specs.Questions.{IsContained, LoopOf}
 use Rattle.ped_rules.specs.ped_eval.specs.Outcomes.{setting_of}
-use Rattle.ped_rules.specs.ped_graph.specs.Update.Fresh.{IsOneToOne}
+use Rattle.ped_rules.specs.ped_graph.specs.Keeping.{IsOneToOne}
 use Rattle.ped_rules.specs.ped_symbols.specs.Kinds.{kind_in, names_of}
 use Rattle.ped_rules.specs.ped_symbols.specs.NameRefusals.{IsValid}
 use Rattle.ped_reindex.proofs.Determined.{determined_strip}

@@ -32,10 +32,9 @@ use Rattle.ped_rules.specs.ped_bodies.proofs.BodyLaws.TripLists.{close_in_order,
 use Rattle.ped_rules.specs.ped_bodies.specs.Likewise.{IsMadeLikewise, IsOnlyTold}
 use Rattle.ped_rules.specs.ped_bodies.specs.Moving.{is_cell_among, own_number}
 use Rattle.ped_rules.specs.ped_bodies.specs.Trips.{IsMadeOfTrips, IsTrip, bounds_seen, loop_entry, trip_end, trips as trips_in_order}
-use Rattle.ped_rules.specs.ped_steps.proofs.RunLaws.ExpandedRacesOrigins.{touch_of, write_access, write_in}
-use Rattle.ped_rules.specs.ped_steps.proofs.RunLaws.PastedStores.{execution_left}
-use Rattle.ped_rules.specs.ped_steps.proofs.RunLaws.PrivatisedPrograms.{shown_scalar}
-use Rattle.ped_rules.specs.ped_steps.proofs.RunLaws.PrivatisedRacesOrigins.{accesses_from}
+use Rattle.ped_rules.specs.ped_steps.proofs.RunLaws.AccessTouches.{touch_of, write_access, write_in, accesses_from}
+use Rattle.ped_rules.specs.ped_steps.proofs.RunLaws.LeftLoops.{execution_left}
+use Rattle.ped_rules.specs.ped_steps.proofs.RunLaws.ScalarNames.{shown_scalar}
 use Rattle.ped_rules.specs.ped_steps.specs.Replacing.{alone}
 use Rattle.ped_rules.specs.ped_steps.specs.Runs.Exchanging.{is_of_scalar}
 use Rattle.ped_rules.specs.ped_steps.specs.Runs.Pasting.{IsInOutermost, IsPlaceOf}

@@ -8,8 +8,8 @@ use Rattle.ped_rules.specs.OnlyLoops.{on_loop}
 use Rattle.ped_rules.specs.Rules.{WhereNoLoop, is_parallel, has_private, WhereEscape, isnt_constant, WhereLimit}
 use Rattle.ped_rules.specs.Spans.{Values, Span, span_of, is_far}
 use Rattle.ped_rules.specs.Steps.{transformation, StepAt, asks_no_more}
-use Rattle.ped_sums.specs.Sums.{literal}
-use Rattle.ped_sums.specs.Substitution.{statements_substituted}
+use Rattle.ped_symbolic.specs.Arithmetic.{literal}
+use Rattle.ped_symbolic.specs.Substitution.{statements_substituted}
 use Rattle.ped_rules.specs.ped_eval.specs.Loops.{increment}
 use Rattle.ped_rules.specs.ped_symbols.specs.Kinds.{table_of}
 use Rattle.ped_rules.specs.ped_flow.specs.Questions.{LoopOf}

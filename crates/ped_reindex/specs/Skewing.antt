@@ -7,8 +7,8 @@ use Rattle.ped_rules.specs.Chains.{no_rules, also, WhereLoop, Unless}
 use Rattle.ped_rules.specs.OnlyLoops.{inner, either, on_loop, change_only}
 use Rattle.ped_rules.specs.Rules.{WhereNoLoop, isnt_perfect, is_parallel, WhereEscape, leaves, setting_at, heads_round, WhereLimit}
 use Rattle.ped_rules.specs.Steps.{transformation, StepAt, asks_no_more}
-use Rattle.ped_sums.specs.Sums.{plus_of, minus_of, times_of}
-use Rattle.ped_sums.specs.Substitution.{statements_substituted}
+use Rattle.ped_symbolic.specs.Arithmetic.{plus_of, minus_of, times_of}
+use Rattle.ped_symbolic.specs.Substitution.{statements_substituted}
 use Rattle.ped_rules.specs.ped_steps.specs.declared.rules.Rule.TheVariants.{NoLoop, NotPerfect, ParallelState, IndexEscapes, Range, Limit, BadFactor}
 use Rattle.ped_rules.specs.ped_steps.specs.Causes.{Rules, IsFirstCause, none_forbids}
 use Rattle.ped_rules.specs.ped_steps.specs.Replacing.{alone, program_with, all_kept}

@@ -8,7 +8,7 @@ use Rattle.ped_rules.specs.KeepMaps.{moved_by}
 use Rattle.ped_rules.specs.OnlyLoops.{on_loop}
 use Rattle.ped_rules.specs.Rules.{WhereNoLoop, is_parallel, has_private, WhereEscape, WhereUnplain, is_one, has_other_step, leaves, setting_at, heads_round, WhereLimit}
 use Rattle.ped_rules.specs.Steps.{transformation, StepAt, asks_no_more}
-use Rattle.ped_sums.specs.Sums.{literal, plus_of}
+use Rattle.ped_symbolic.specs.Arithmetic.{literal, plus_of}
 use Rattle.ped_rules.specs.ped_symbols.specs.Kinds.{table_of}
 use Rattle.ped_rules.specs.ped_flow.specs.Questions.{LoopOf}
 use Rattle.ped_rules.specs.ped_steps.specs.declared.rules.Rule.TheVariants.{NoLoop, ParallelState, HasPrivate, IndexEscapes, BoundNotPlain, StepShape, Range, Limit, BadFactor}

@@ -8,7 +8,7 @@ ghost use Rattle.ped_rules.specs.Rules.{WhereEscape, has_private};
 ghost use Rattle.ped_rules.specs.Steps.{Answers};
 ghost use Rattle.ped_rules.specs.ped_steps.specs.Changes.{IsChange};
 ghost use Rattle.ped_rules.specs.ped_steps.specs.Scenes.{IsSceneOf};
-ghost use Rattle.ped_sums.specs.Sums as Sums;
+ghost use Rattle.ped_symbolic.specs.Arithmetic;
 ghost use Rattle.ped_rules.specs.ped_flow.specs.Questions.{IsLoop};
 ghost use Rattle.ped_rules.specs.ped_symbols.specs.Kinds.{table_of};
 ghost use Rattle.ped_rules.specs.ped_symbols.specs.NameRefusals.{IsValid};
@@ -22,7 +22,7 @@ use ped_rules::{
     Change, Keep, Rule, Scene, StepAnswer, against, behind_comments, body_with, change_to, escapes,
     literal, loop_at, moved_by,
 };
-use ped_sums::substitute_in_statements;
+use ped_symbolic::substitute_in_statements;
 use ped_tree::{Do, Expr, Program, Stmt, copy_decls, count_statements};
 use std::alloc::Global;
 use std::sync::ledger::Ledger;
@@ -224,7 +224,7 @@ fn iteration(alloc: Global, d: &Do, value: i64) -> Result<Vec<Stmt>, NoMemory>
 /// The DO with the literal of this number for its initial value.
 fn beginning_at(alloc: Global, d: &Do, bound: i64) -> Result<Stmt, NoMemory>
     requires { unsigned_abs bound ≤ 2147483647 }
-    ensures { IfOk result (λ new. stmt_tree new ≡ Tree.Do (record (head_of d.now) { first = Sums.literal bound }) (stmt_trees d.now.body.items)) }
+    ensures { IfOk result (λ new. stmt_tree new ≡ Tree.Do (record (head_of d.now) { first = Arithmetic.literal bound }) (stmt_trees d.now.body.items)) }
 {
     let (first, last) = both(literal(alloc, bound)?, d.last.copy(alloc))?;
     with_bounds(alloc, d, first, last)
@@ -233,7 +233,7 @@ fn beginning_at(alloc: Global, d: &Do, bound: i64) -> Result<Stmt, NoMemory>
 /// The DO with the literal of this number for its limit.
 fn ending_at(alloc: Global, d: &Do, bound: i64) -> Result<Stmt, NoMemory>
     requires { unsigned_abs bound ≤ 2147483647 }
-    ensures { IfOk result (λ new. stmt_tree new ≡ Tree.Do (record (head_of d.now) { last = Sums.literal bound }) (stmt_trees d.now.body.items)) }
+    ensures { IfOk result (λ new. stmt_tree new ≡ Tree.Do (record (head_of d.now) { last = Arithmetic.literal bound }) (stmt_trees d.now.body.items)) }
 {
     let (first, last) = both(d.first.copy(alloc)?, literal(alloc, bound))?;
     with_bounds(alloc, d, first, last)

@@ -14,7 +14,7 @@ ghost use Rattle.ped_rules.specs.ped_steps.specs.Scenes.{IsSceneOf};
 ghost use Rattle.ped_rules.specs.ped_affine.specs.PairViews.{heads_of};
 ghost use Rattle.ped_rules.specs.ped_flow.specs.Questions.{IsLoop};
 ghost use Rattle.ped_refs.specs.Loops.{nest_of};
-ghost use Rattle.ped_sums.specs.Substitution.{statements_substituted};
+ghost use Rattle.ped_symbolic.specs.Substitution.{statements_substituted};
 ghost use Rattle.ped_rules.specs.ped_symbols.specs.NameRefusals.{IsValid};
 ghost use Rattle.ped_reindex.specs.Skewing as Spec;
 ghost use Rattle.ped_reindex.specs.CodeSkewing.{skewed_statement, all_skewed};
@@ -25,7 +25,7 @@ use ped_rules::{
     Change, Rule, Scene, StepAnswer, against, all_kept, change_to, escapes, leaves, loop_at,
     loops_round, only_loop, program_with,
 };
-use ped_sums::{minus, plus, substitute_in_statements, times};
+use ped_symbolic::{minus, plus, substitute_in_statements, times};
 use ped_tree::{Do, Expr, Program, Stmt};
 use std::alloc::Global;
 use std::sync::ledger::Ledger;

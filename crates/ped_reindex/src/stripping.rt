@@ -26,7 +26,7 @@ use ped_rules::{
     Change, NewName, Rule, Scene, StepAnswer, against, change_to, escapes, fresh_name,
     has_step_one, is_plain, leaves, literal, loop_at, loops_round, moved_by, program_with,
 };
-use ped_sums::plus;
+use ped_symbolic::plus;
 use ped_tree::{Do, Expr, Intrinsic, Program, Stmt};
 use std::alloc::Global;
 use std::sync::ledger::Ledger;

@@ -7,7 +7,7 @@ use Rattle.std.proofs.lemmas.List.FromFn.{get_or-map-range_with_len, length-map-
 use Rattle.std.proofs.lemmas.List.Kept.{AllPairs-filter}
 use Rattle.ped_tree.specs.Tree.{ProgramTree}
 use Rattle.ped_tree.specs.Numbering.{statements_count}
-use Rattle.ped_loop_runs.specs.ped_graph.specs.Update.Fresh.{IsOneToOne}
+use Rattle.ped_loop_runs.specs.ped_graph.specs.Keeping.{IsOneToOne}
 use Rattle.ped_loop_runs.specs.ped_steps.specs.Replacing.{all_kept}
 use Rattle.ped_rules.specs.KeepMaps.{is_between, all_but, moved, moved_by}
 

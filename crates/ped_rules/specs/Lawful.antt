@@ -2,7 +2,7 @@
 use Rattle.std.specs.Prelude.{◌≡◌, ℕ, List, Option, None, ⊤}
 use Rattle.ped_tree.specs.Tree.{ProgramTree}
 use Rattle.ped_loop_runs.specs.ped_symbols.specs.NameRefusals.{IsValid}
-use Rattle.ped_loop_runs.specs.ped_graph.specs.Update.Fresh.{IsOneToOne}
+use Rattle.ped_loop_runs.specs.ped_graph.specs.Keeping.{IsOneToOne}
 use Rattle.ped_loop_runs.specs.ped_steps.specs.Causes.{Cause}
 use Rattle.ped_loop_runs.specs.ped_eval.specs.Outcomes.{IsRaceFree}
 use Rattle.ped_loop_runs.specs.ped_steps.specs.Tidy.{IsTidy}

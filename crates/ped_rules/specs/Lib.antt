@@ -1,7 +1,7 @@
 pub use Rattle.ped_loop_runs
 pub use Rattle.ped_loop_runs.specs.ped_bodies
 pub use Rattle.ped_loop_runs.specs.ped_steps
-pub use Rattle.ped_loop_runs.specs.ped_sums
+pub use Rattle.ped_loop_runs.specs.ped_symbolic
 pub use Rattle.ped_refs
 pub use Rattle.ped_edges
 pub use Rattle.ped_loop_runs.specs.ped_weaves

@@ -2,7 +2,7 @@
 use Rattle.std.specs.Prelude.{ℕ, List, [], ◌∷◌}
 use Rattle.std.specs.Int.{int_min, int_max}
 use Rattle.ped_tree.specs.Tree.{ExprTree, Element, no_exprs, more_exprs, DeclTree, Integer}
-use Rattle.ped_loop_runs.specs.ped_sums.specs.Sums.{literal}
+use Rattle.ped_loop_runs.specs.ped_symbolic.specs.Arithmetic.{literal}
 use Rattle.ped_rules.specs.Spans.{Span}
 
 -- an array with one subscript (ANSI X3.9-1978, section 5.3)

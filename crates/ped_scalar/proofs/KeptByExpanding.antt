@@ -24,9 +24,9 @@ use Rattle.ped_rules.specs.ped_steps.specs.Causes.{NoRule}
 use Rattle.ped_rules.specs.ped_steps.specs.Tidy.{is_written_in, IsTidy}
 use Rattle.ped_rules.specs.ped_steps.specs.Runs.Meaning.{Keeps}
 use Rattle.ped_tree.specs.NamesIn.{private_names_in}
-use Rattle.ped_rules.specs.ped_steps.specs.Runs.Expanding as runs
-use Rattle.ped_rules.specs.ped_steps.specs.Runs.Expanding.{expanded_by, IsRound, MayExpand}
-use Rattle.ped_rules.specs.ped_steps.proofs.RunLaws.ExpandingKeeps.{expanding_keeps}
+use Rattle.ped_scalar.proofs.ArraysForScalars as runs
+use Rattle.ped_scalar.proofs.ArraysForScalars.{expanded_by, IsRound, MayExpand}
+use Rattle.ped_scalar.proofs.ExpandedKeeps.{expanding_keeps}
 use Rattle.ped_rules.specs.Scalars.{is_scalar, is_index_near, is_referred, IsLiveBy}
 use Rattle.ped_rules.specs.Spans.{Span, has_iteration, last_value, span_by, is_far, spans_far}
 use Rattle.ped_rules.specs.Fresh.{occurs, first_free, numbered_names, most_numbered}

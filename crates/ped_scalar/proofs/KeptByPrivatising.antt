@@ -8,10 +8,10 @@ use Rattle.ped_rules.specs.ped_flow.specs.PlainBounds.{nest_round}
 use Rattle.ped_rules.specs.ped_flow.specs.Questions.{LoopOf, IsExposed, IsReadBehind, IsLiveAfter}
 use Rattle.ped_rules.specs.ped_steps.specs.Causes.{NoRule}
 use Rattle.ped_rules.specs.ped_steps.specs.Runs.Meaning.{Keeps}
-use Rattle.ped_rules.specs.ped_steps.proofs.RunLaws.PrivatisedPrograms.{privatised_keeps}
 use Rattle.ped_rules.specs.Scalars.{is_scalar}
-use Rattle.ped_scalar.specs.Privatising.{with_private, privatised, StandsAgainstPrivatising}
+use Rattle.ped_scalar.specs.Privatising.{privatised, StandsAgainstPrivatising}
 use Rattle.ped_scalar.proofs.FlowAnswers.{fit_scalar}
+use Rattle.ped_scalar.proofs.PrivatisedKeeps.{privatised_keeps}
 use Rattle.ped_scalar.proofs.PrivatiseRules as rules
 use Rattle.ped_rules.proofs.LeastNumbers.{least}
 
@@ -33,7 +33,7 @@ module _ (t : ProgramTree) (s : ℕ) (x : List ℕ) (valid : IsValid t) (stands_
     kept : Keeps t (privatised t s x)
     kept =
         let apart = or_parts l.head.parallel (list_any (λ m. m.head.parallel) (nest_round t s)) (rules.is_apart s x t stands_none l) in
-        privatised_keeps t valid s l x apart.0 apart.1 (rules.is_unlisted s x t stands_none l) scalar unexposed dead (with_private x) refl
+        privatised_keeps t valid s l x apart.0 apart.1 (rules.is_unlisted s x t stands_none l) scalar unexposed dead (rules.is_valid s x t stands_none)
 
   -- the program keeps its meaning
   pub privatising_keeps_it : Keeps t (privatised t s x)

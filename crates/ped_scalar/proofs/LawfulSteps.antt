@@ -4,7 +4,7 @@ use Rattle.std.specs.Prelude.{nat_lt, if◌then◌else◌}
 use Rattle.std.proofs.lemmas.Bool.{both_ways, lt-ltb, ltb-true}
 use Rattle.ped_tree.specs.Tree.{StmtTrees, ProgramTree}
 use Rattle.ped_tree.specs.Numbering.{statements_count}
-use Rattle.ped_rules.specs.ped_graph.specs.Update.Fresh.{IsOneToOne}
+use Rattle.ped_rules.specs.ped_graph.specs.Keeping.{IsOneToOne}
 use Rattle.ped_rules.specs.ped_symbols.specs.Kinds.{table_of}
 use Rattle.ped_rules.specs.ped_symbols.specs.NameRefusals.{IsValid}
 use Rattle.ped_rules.specs.ped_flow.specs.Questions.{LoopOf}

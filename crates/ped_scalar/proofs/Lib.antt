@@ -18,3 +18,18 @@ pub mod TidyKept
 pub mod UnrejectedSteps
 pub mod LiveSaid
 pub mod LawfulSteps
+mod ArraysForScalars
+mod PrivatisedLoops
+mod PrivatisedParts
+mod PrivatisedCells
+mod PrivatisedOrigins
+mod PrivatisedRaces
+mod PrivatisedKeeps
+mod ExpandedLoops
+mod ExpandedRuns
+mod ExpandedNames
+mod StandingElements
+mod LastValues
+mod ExpandedPlaces
+mod ExpandedRaces
+mod ExpandedKeeps

@@ -1,5 +1,5 @@
 -- Whether a scalar is live after a DO is settled: its summaries, which are computed statement by statement, say what all paths from the exit do.
-use Rattle.std.proofs.Common.{◌≡◌, ◌⊎◌, ◌↔◌, ℕ, refl, inl, inr, Bool, true, false, ◌||◌, IsTrue, List, Option, Some, None}
+use Rattle.std.proofs.Common.{◌⊎◌, ◌↔◌, ℕ, refl, inl, inr, Bool, true, false, ◌||◌, IsTrue, List, Option, Some, None}
 use Rattle.std.specs.List.{flat_map}
 use Rattle.ped_base.specs.Lists.{is_among}
 use Rattle.ped_tree.specs.Tree.{ProgramTree}

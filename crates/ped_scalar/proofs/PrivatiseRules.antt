@@ -1,6 +1,6 @@
 -- The rules that stand against `privatise`, one behind the other; what is so where none stands; and what the code answers.
 use Rattle.std.proofs.Common.{◌≡◌, ℕ, List, Bool, true, false, inl, inr, Ok, Err, refl, sym, ◌∙◌, arith}
-use Rattle.std.proofs.lemmas.Bool.{both_ways, and_from, and_right, not_from_true, not_from_false, false_from_ne_true}
+use Rattle.std.proofs.lemmas.Bool.{and_from, and_right, not_from_true, not_from_false, false_from_ne_true}
 use Rattle.ped_base.specs.Lists.{is_among}
 use Rattle.ped_tree.specs.Tree.{Head, StmtTrees, ProgramTree}
 use Rattle.ped_rules.specs.ped_symbols.specs.NameRefusals.{IsValid}

@@ -15,8 +15,8 @@ use Rattle.ped_tree.specs.NamesIn.{saved_in}
 use Rattle.ped_rules.specs.ped_flow.specs.Summaries.{passing, unreached, summary_in_turn, summary_events, summary_loop, summary_of, summary_of_all, summary_at_once, summary_behind_all}
 use Rattle.ped_rules.specs.ped_flow.proofs.Truths.{untrue, or_none}
 use Rattle.ped_rules.specs.ped_laws.specs.FlowRuns.Covering.{some_stop}
-use Rattle.ped_sums.specs.Sums.{literal}
-use Rattle.ped_sums.specs.Substitution.{statements_substituted}
+use Rattle.ped_symbolic.specs.Arithmetic.{literal}
+use Rattle.ped_symbolic.specs.Substitution.{statements_substituted}
 use Rattle.ped_rules.specs.ped_steps.specs.Replacing.{alone}
 use Rattle.ped_rules.specs.ped_steps.proofs.RunLaws.SubstitutedShapes.{counts_kept}
 use Rattle.ped_rules.specs.Spans.{Span}

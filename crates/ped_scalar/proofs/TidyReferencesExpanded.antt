@@ -17,12 +17,12 @@ use Rattle.ped_rules.specs.ped_symbols.specs.Kinds.{kind_of, kind_in, names_of}
 use Rattle.ped_rules.specs.ped_symbols.specs.RightUses.RightUses.{is_scalar_kind, is_scalar, cond_is_right, head_is_right, stmt_is_right, stmts_are_right}
 use Rattle.ped_rules.specs.ped_flow.specs.PlainBounds.{all_loops_round, nest_round}
 use Rattle.ped_rules.specs.ped_flow.specs.Questions.{LoopOf, IsIndexIn}
-use Rattle.ped_sums.specs.Substitution.{statement_substituted, statements_substituted}
+use Rattle.ped_symbolic.specs.Substitution.{statement_substituted, statements_substituted}
 use Rattle.ped_rules.specs.ped_steps.specs.Replacing.{alone}
 use Rattle.ped_rules.specs.ped_steps.specs.Tidy.{is_written_in}
 use Rattle.ped_rules.specs.ped_steps.specs.Runs.Gaps.{Gap, filled}
-use Rattle.ped_rules.specs.ped_steps.specs.Runs.Expanding.{IsRound}
-use Rattle.ped_rules.specs.ped_steps.proofs.RunLaws.ExpandedPlacesParts.{part_at}
+use Rattle.ped_scalar.proofs.ArraysForScalars.{IsRound}
+use Rattle.ped_rules.specs.ped_steps.proofs.RunLaws.ProgramParts.{part_at}
 use Rattle.ped_rules.specs.ped_steps.proofs.RunLaws.ReplacedTrees.{program_gap}
 use Rattle.ped_rules.specs.ped_steps.proofs.RunLaws.RunCells.{EachDo, EachDos}
 use Rattle.ped_rules.specs.ped_steps.proofs.RunLaws.SubstitutedShapes.{count_kept, counts_kept}

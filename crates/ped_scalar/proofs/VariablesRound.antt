@@ -16,8 +16,8 @@ use Rattle.ped_rules.specs.ped_flow.proofs.Answering.{same_head, same_body}
 use Rattle.ped_rules.specs.ped_flow.proofs.Truths.{untrue, or_split}
 use Rattle.ped_rules.specs.ped_laws.proofs.FlowRunLaws.Standing.{Stand, whole_stands, first_stands, rest_stands, inner_stands, else_stands, is_there}
 use Rattle.ped_rules.specs.ped_steps.specs.Tidy.{is_write_in, is_written_in, IsTidy}
-use Rattle.ped_rules.specs.ped_steps.specs.Runs.Expanding.{IsRound}
-use Rattle.ped_rules.specs.ped_steps.proofs.RunLaws.ExpandedPlaces.{OfEach, each_of_both}
+use Rattle.ped_scalar.proofs.ArraysForScalars.{IsRound}
+use Rattle.ped_rules.specs.ped_steps.proofs.RunLaws.UntoldVariables.{OfEach, each_of_both}
 use Rattle.ped_rules.proofs.NameLaws.ReferencesThere.{all_end_within}
 
 -- what is so of each item is so of one

@@ -6,8 +6,8 @@ ghost use Rattle.ped_tree.specs.Views.{expr_tree, stmt_tree, stmt_trees, do_tree
 ghost use Rattle.ped_tree.specs.Numbering.{statements_count};
 ghost use Rattle.ped_tree.specs.Views.{head_of};
 ghost use Rattle.ped_rules.specs.ped_flow.specs.Questions.{IsLoop};
-ghost use Rattle.ped_sums.specs.Sums as Sums;
-ghost use Rattle.ped_sums.specs.Substitution.{statements_substituted};
+ghost use Rattle.ped_symbolic.specs.Arithmetic;
+ghost use Rattle.ped_symbolic.specs.Substitution.{statements_substituted};
 ghost use Rattle.ped_rules.specs.ped_steps.specs.Replacing as Replacing;
 ghost use Rattle.ped_scalar.specs.Expanding as Spec;
 ghost use Rattle.ped_rules.specs.ScalarArrays as ScalarArrays;
@@ -15,7 +15,7 @@ ghost use Rattle.ped_rules.specs.CodeSpans.{span_in, IsNear};
 
 use ped_base::{Name, NoMemory, both};
 use ped_rules::{Span, body_with, literal};
-use ped_sums::substitute_in_statements;
+use ped_symbolic::substitute_in_statements;
 use ped_tree::{Bound, Decl, Declarator, Do, Expr, Program, Stmt, copy_decls};
 use std::alloc::Global;
 
@@ -104,7 +104,7 @@ impl Elements {
     /// The assignment of the last element to the scalar.
     fn last(&self, alloc: Global) -> Result<Stmt, NoMemory>
         requires near { IsNear self.now.span }
-        ensures { IfOk result (λ new. stmt_tree new ≡ Tree.Assign (Tree.Var self.now.scalar) (ScalarArrays.element self.now.array (Sums.literal self.now.span.last))) }
+        ensures { IfOk result (λ new. stmt_tree new ≡ Tree.Assign (Tree.Var self.now.scalar) (ScalarArrays.element self.now.array (Arithmetic.literal self.now.span.last))) }
     {
         let last = literal(alloc, self.span.last)?;
         let element = element(alloc, self.array, last)?;

@@ -9,7 +9,7 @@ use Rattle.ped_tree.specs.Tree.{Head, StmtTrees, If, Do, Var, no_stmts, more_stm
 use Rattle.ped_rules.specs.ped_symbols.proofs.RightUseLaws.Whole.{names_occur, same_kinds, same_values}
 use Rattle.ped_rules.specs.ped_symbols.specs.Kinds.{kind_in, names_of}
 use Rattle.ped_rules.specs.ped_symbols.specs.Sites.{decl_sites, stmts_sites}
-use Rattle.ped_rules.specs.ped_steps.proofs.RunLaws.ExpandedNamesSites.{stmts_at}
+use Rattle.ped_rules.specs.ped_steps.proofs.RunLaws.NamesAtSites.{stmts_at}
 use Rattle.ped_rules.specs.ped_steps.proofs.RunLaws.NamesKept.{occurs, occurs_append}
 use Rattle.ped_rules.specs.ped_steps.specs.Replacing.{followed, alone}
 use Rattle.ped_rules.specs.ped_steps.specs.Runs.Gaps.{Gap, at_front, past, in_then, in_else, in_body, filled}
@@ -17,7 +17,7 @@ use Rattle.ped_rules.specs.ped_loop_runs.proofs.TidyLaws.UnrejectedTrees.{filled
 use Rattle.ped_rules.specs.ped_loop_runs.specs.Unrejected.{has_rejection, some_rejection}
 use Rattle.ped_rules.specs.ped_flow.proofs.Truths.{or_none}
 use Rattle.ped_rules.proofs.NameLaws.SubstitutedRejections.{rejections_kept}
-use Rattle.ped_sums.specs.Substitution.{statements_substituted}
+use Rattle.ped_symbolic.specs.Substitution.{statements_substituted}
 use Rattle.ped_rules.specs.ped_eval.specs.Outcomes.{bounds_of, setting_of}
 use Rattle.ped_splits.proofs.CoverFacts.{MayFuse, may_fuse}
 use Rattle.ped_splits.proofs.FuseFacts.{IsFusable, renamed, renamed_next, renamed_pair}

@@ -12,7 +12,7 @@ use Rattle.ped_tree.specs.Numbering.{all_numbered, numbered, statement_count, st
 use Rattle.ped_tree.specs.Tree.{Do, Var, ProgramTree}
 use Rattle.ped_rules.specs.ped_bodies.specs.Moving.{is_cell_among}
 use Rattle.ped_rules.specs.ped_bodies.specs.Trips.{IsMadeOfTrips, bounds_seen, entered_from, loop_entry, trips}
-use Rattle.ped_rules.specs.ped_steps.proofs.RunLaws.ExpandedRacesOrigins.{touch_of}
+use Rattle.ped_rules.specs.ped_steps.proofs.RunLaws.AccessTouches.{touch_of}
 use Rattle.ped_rules.specs.ped_steps.proofs.RunLaws.FilledGaps.{counted}
 use Rattle.ped_rules.specs.ped_steps.proofs.RunLaws.RenumberedRuns.{AreRenumbered, deeper, all_in}
 use Rattle.ped_rules.specs.ped_steps.proofs.RunLaws.RunPlaces.{StandsIn, stands_in}
@@ -68,7 +68,7 @@ use Rattle.ped_splits.proofs.CoverTrips.{pair_acts, trips_before}
 use Rattle.ped_splits.proofs.CoverFacts.{MayFuse}
 use Rattle.ped_splits.proofs.FuseFacts.{renamed, renamed_next, renamed_pair}
 use Rattle.ped_splits.proofs.JoinCrossing.{CrossBetween, joined_variables, renamed_head, second_body, store_between}
-use Rattle.ped_sums.specs.Substitution.{statements_substituted}
+use Rattle.ped_symbolic.specs.Substitution.{statements_substituted}
 use Rattle.ped_splits.specs.Fusing.{AreBack, Match}
 use Rattle.ped_splits.specs.Neighbours.{Neighbour, fused, next_number}
 

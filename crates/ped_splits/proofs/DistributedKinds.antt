@@ -5,10 +5,10 @@ use Rattle.ped_tree.proofs.NameLaws.Collected.{among_append}
 use Rattle.ped_tree.specs.NamesIn.{head_names, stmt_names, stmts_names}
 use Rattle.ped_tree.specs.Numbering.{statement_count, statement_with}
 use Rattle.ped_tree.specs.Tree.{Do, Head, ProgramTree, StmtTree, StmtTrees}
-use Rattle.ped_rules.specs.ped_steps.proofs.RunLaws.ExpandedNamesSites.{stmt_at, stmts_at}
-use Rattle.ped_rules.specs.ped_steps.proofs.RunLaws.ExpandedPlacesStand.{variable_scalar}
+use Rattle.ped_rules.specs.ped_steps.proofs.RunLaws.NamesAtSites.{stmt_at, stmts_at}
+use Rattle.ped_rules.specs.ped_steps.proofs.RunLaws.LoopVariables.{variable_scalar}
 use Rattle.ped_rules.specs.ped_steps.proofs.RunLaws.NamesKept.{Alike, AreAlike, names_kept, occurs}
-use Rattle.ped_rules.specs.ped_steps.proofs.RunLaws.PrivatisedPrograms.{scalar_occurs, statement_in}
+use Rattle.ped_rules.specs.ped_steps.proofs.RunLaws.ScalarNames.{scalar_occurs, statement_in}
 use Rattle.ped_rules.specs.ped_steps.specs.Replacing.{program_with}
 use Rattle.ped_rules.specs.ped_flow.specs.Questions.{LoopOf}
 use Rattle.ped_rules.specs.ped_eval.specs.Scopes.{Setting}

@@ -14,7 +14,7 @@ use Rattle.ped_rules.specs.ped_steps.specs.Replacing.{followed, alone}
 use Rattle.ped_rules.specs.ped_steps.specs.Runs.Gaps.{filled}
 use Rattle.ped_rules.specs.ped_graph.proofs.OnePane.{one_edges_of_pairs}
 use Rattle.ped_rules.specs.ped_graph.specs.Dependences.{EdgesOfPairs}
-use Rattle.ped_rules.specs.ped_graph.specs.Update.Fresh.{IsOneToOne}
+use Rattle.ped_rules.specs.ped_graph.specs.Keeping.{IsOneToOne}
 use Rattle.ped_edges.specs.Edges.{Edge}
 use Rattle.ped_refs.specs.References.{Reference, references, pairs}
 use Rattle.ped_splits.specs.Neighbours.{Neighbour, joined_head, renamed_body, fused, next_number, kept_without}

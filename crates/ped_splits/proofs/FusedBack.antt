@@ -11,7 +11,7 @@ use Rattle.ped_rules.specs.ped_steps.specs.Causes.{IsFirstForbidding}
 use Rattle.ped_rules.specs.ped_steps.specs.Replacing.{followed}
 use Rattle.ped_rules.specs.ped_steps.proofs.RunLaws.FilledGaps.{counted}
 use Rattle.ped_rules.specs.ped_steps.proofs.RunLaws.SubstitutedShapes.{counts_kept}
-use Rattle.ped_sums.specs.Substitution.{statements_substituted}
+use Rattle.ped_symbolic.specs.Substitution.{statements_substituted}
 use Rattle.ped_refs.specs.References.{Reference, references, pairs}
 use Rattle.ped_rules.specs.ped_graph.specs.DependencePane.{is_level, is_in_body, extent_of}
 use Rattle.ped_rules.specs.ped_graph.specs.Dependences.{EdgesOfPairs}

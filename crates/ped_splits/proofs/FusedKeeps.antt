@@ -14,7 +14,7 @@ use Rattle.ped_rules.specs.ped_steps.specs.Runs.Meaning.{Keeps}
 use Rattle.ped_rules.specs.ped_laws.proofs.ConflictLaws.CoveringRuns.{MakingLaw}
 use Rattle.ped_rules.specs.ped_laws.specs.Runs.Showing.{shown_at_end}
 use Rattle.ped_rules.specs.ped_eval.specs.Outcomes.{IsRaceFree, run_of}
-use Rattle.ped_sums.specs.Substitution.{statements_substituted}
+use Rattle.ped_symbolic.specs.Substitution.{statements_substituted}
 use Rattle.ped_splits.proofs.CoverCrossing.{none_crosses, unrejected_fused}
 use Rattle.ped_splits.proofs.FuseFacts.{IsFusable}
 use Rattle.ped_splits.proofs.JoinKeeps.{joined_keeps}

@@ -22,7 +22,7 @@ use Rattle.ped_rules.specs.ped_loop_runs.proofs.TidyLaws.UnrejectedTrees.{follow
 use Rattle.ped_rules.specs.ped_loop_runs.proofs.TidyLaws.WrittenIndices.{followed_index}
 use Rattle.ped_rules.specs.ped_loop_runs.specs.Unrejected.{has_rejection, some_rejection}
 use Rattle.ped_rules.specs.ped_loop_runs.specs.Writing.{all_write, some_write_index, writes, writes_index, writes_name}
-use Rattle.ped_rules.specs.ped_steps.proofs.RunLaws.ExpandedPlacesParts.{part_at}
+use Rattle.ped_rules.specs.ped_steps.proofs.RunLaws.ProgramParts.{part_at}
 use Rattle.ped_rules.specs.ped_steps.specs.Replacing.{followed, alone}
 use Rattle.ped_rules.specs.ped_flow.proofs.Truths.{untrue, or_split}
 use Rattle.ped_rules.specs.ped_flow.specs.Questions.{IsContained, IsShownBehind}
@@ -32,7 +32,7 @@ use Rattle.ped_rules.specs.ped_laws.specs.FlowRuns.Covering.{has_stop, some_stop
 use Rattle.ped_rules.specs.ped_symbols.specs.Kinds.{kind_in}
 use Rattle.ped_rules.specs.ped_symbols.specs.NameRefusals.{IsValid}
 use Rattle.ped_rules.specs.ped_symbols.specs.RightUses.RightUses.{NameKinds, cond_is_right, head_is_right, stmt_is_right, stmts_are_right}
-use Rattle.ped_sums.specs.Substitution.{statement_substituted, statements_substituted}
+use Rattle.ped_symbolic.specs.Substitution.{statement_substituted, statements_substituted}
 use Rattle.ped_splits.specs.Neighbours.{Neighbour, AreAlike, joined_head, renamed_body, joined_loop, fused, next_number}
 use Rattle.ped_splits.proofs.NeighbourLoops.{pair, pair_count, own_loop, next_loop, fused_loop, next_is}
 use Rattle.ped_splits.proofs.UnitTests.{only_comment}

@@ -16,8 +16,7 @@ use Rattle.ped_rules.specs.ped_bodies.proofs.BodyLaws.MovedCells.{moved_names}
 use Rattle.ped_rules.specs.ped_bodies.specs.Likewise.{IsMadeLikewise, IsOnlyTold, Meet}
 use Rattle.ped_rules.specs.ped_bodies.specs.Moving.{in_loop, own_number}
 use Rattle.ped_rules.specs.ped_bodies.specs.Trips.{IsMadeOfTrips, bounds_seen, loop_acts, loop_entry}
-use Rattle.ped_rules.specs.ped_steps.proofs.RunLaws.ExpandedRacesOrigins.{touch_of}
-use Rattle.ped_rules.specs.ped_steps.proofs.RunLaws.PrivatisedRacesOrigins.{accesses_from}
+use Rattle.ped_rules.specs.ped_steps.proofs.RunLaws.AccessTouches.{touch_of, accesses_from}
 use Rattle.ped_rules.specs.ped_steps.specs.Runs.Renumbering.{renumbered}
 use Rattle.ped_rules.specs.ped_laws.proofs.ActLaws.Conflicting.{access_by, access_in, accesses_in}
 use Rattle.ped_rules.specs.ped_laws.proofs.ActLaws.Lists.{in_left, in_parts, in_right}

@@ -9,7 +9,7 @@ use Rattle.ped_tree.specs.Tree.{DeclTree, Do, ProgramTree}
 use Rattle.ped_rules.specs.ped_loop_runs.specs.Executions.{IsExecuted}
 use Rattle.ped_rules.specs.ped_bodies.proofs.BodyLaws.TripLists.{close_in_order, end_in_order}
 use Rattle.ped_rules.specs.ped_bodies.specs.Trips.{loop_acts, loop_entry, trip_end, trips}
-use Rattle.ped_rules.specs.ped_steps.proofs.RunLaws.PrivatisedPrograms.{shown_scalar}
+use Rattle.ped_rules.specs.ped_steps.proofs.RunLaws.ScalarNames.{shown_scalar}
 use Rattle.ped_rules.specs.ped_laws.proofs.FlowRunLaws.DeadExits.{unwanted_behind}
 use Rattle.ped_rules.specs.ped_laws.specs.Acts.Fitting.{store_after}
 use Rattle.ped_rules.specs.ped_laws.specs.Acts.Sets.{wants}

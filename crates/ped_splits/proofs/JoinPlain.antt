@@ -23,7 +23,7 @@ use Rattle.ped_rules.specs.ped_laws.proofs.FlowRunLaws.Standing.{Stand, else_sta
 use Rattle.ped_rules.specs.ped_laws.proofs.FlowRunLaws.Stopping.{fitting_stops}
 use Rattle.ped_rules.specs.ped_laws.specs.FlowRuns.Covering.{has_stop, some_stop, some_stops_in_loop, stops_in_loop}
 use Rattle.ped_rules.specs.ped_affine.specs.Assigned.{assigned_in, assigned_in_all, assigned_left}
-use Rattle.ped_sums.specs.Substitution.{statement_substituted, statements_substituted, substituted}
+use Rattle.ped_symbolic.specs.Substitution.{statement_substituted, statements_substituted, substituted}
 use Rattle.ped_rules.specs.ped_symbols.proofs.RightUseLaws.Whole.{right_program}
 use Rattle.ped_rules.specs.ped_symbols.specs.Kinds.{kind_in}
 use Rattle.ped_rules.specs.ped_symbols.specs.NameRefusals.{IsValid}

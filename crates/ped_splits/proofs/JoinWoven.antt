@@ -16,7 +16,7 @@ use Rattle.ped_rules.specs.ped_loop_runs.specs.Copies.{IsTheirs}
 use Rattle.ped_rules.specs.ped_loop_runs.specs.Executions.{IsCopyInside, IsExecuted}
 use Rattle.ped_rules.specs.ped_bodies.specs.Moving.{is_cell_among}
 use Rattle.ped_rules.specs.ped_bodies.specs.Trips.{bounds_seen, loop_entry}
-use Rattle.ped_rules.specs.ped_steps.proofs.RunLaws.ExpandedRacesOrigins.{write_in}
+use Rattle.ped_rules.specs.ped_steps.proofs.RunLaws.AccessTouches.{write_in}
 use Rattle.ped_rules.specs.ped_steps.specs.Runs.Exchanging.{is_of_scalar}
 use Rattle.ped_rules.specs.ped_steps.specs.Runs.Renumbering.{renumbered}
 use Rattle.ped_rules.specs.ped_laws.proofs.ActLaws.Exchanging.{same_stands}

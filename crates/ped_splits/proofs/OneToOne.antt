@@ -10,7 +10,7 @@ use Rattle.ped_tree.specs.Numbering.{all_numbered, at_place, statements_count}
 use Rattle.ped_tree.specs.Tree.{Head, StmtTree, StmtTrees, Do, ProgramTree}
 use Rattle.ped_rules.specs.ped_flow.specs.Questions.{IsLoop, LoopOf}
 use Rattle.ped_rules.specs.ped_flow.proofs.Answering.{loop_fits}
-use Rattle.ped_rules.specs.ped_graph.specs.Update.Fresh.{IsOneToOne}
+use Rattle.ped_rules.specs.ped_graph.specs.Keeping.{IsOneToOne}
 use Rattle.ped_splits.specs.Units.{unit_of, is_unit, stands_in}
 use Rattle.ped_splits.specs.PiBlocks.{pi_blocks, ArePiBlocks}
 use Rattle.ped_splits.specs.Distributing.{numbers_of, pi_block_sources, loop_sources, unmoved, sources, kept_from, MakesDistributed}

@@ -11,7 +11,7 @@ use Rattle.ped_rules.specs.ped_store.specs.Races.{Access, accesses, accesses_of,
 use Rattle.ped_rules.specs.ped_laws.specs.Acts.Conflicts.{touches_without, without}
 use Rattle.ped_rules.specs.ped_laws.specs.Acts.Fitting.{has_cell, of_cells, touches_of}
 use Rattle.ped_rules.specs.ped_laws.specs.Acts.Orders.{IsIn}
-use Rattle.ped_rules.specs.ped_steps.proofs.RunLaws.ExpandedRacesOrigins.{write_there}
+use Rattle.ped_rules.specs.ped_steps.proofs.RunLaws.AccessTouches.{write_there}
 use Rattle.ped_rules.specs.ped_laws.proofs.ActLaws.Appending.{written_append}
 use Rattle.ped_rules.specs.ped_laws.proofs.ActLaws.Renamings.{or_right}
 use Rattle.ped_rules.specs.ped_laws.specs.Acts.Sets.{written}

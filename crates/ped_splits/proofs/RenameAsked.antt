@@ -10,7 +10,7 @@ use Rattle.ped_tree.specs.Tree.{Do, ProgramTree}
 use Rattle.ped_rules.specs.ped_loop_runs.proofs.LoopLaws.OneForOneNames.{variables_unnamed}
 use Rattle.ped_rules.specs.ped_loop_runs.proofs.LoopLaws.OneForOneStands.{false_unless}
 use Rattle.ped_rules.specs.ped_loop_runs.specs.OtherCopies.{IsOtherExit}
-use Rattle.ped_rules.specs.ped_steps.proofs.RunLaws.PrivatisedPrograms.{shown_scalar}
+use Rattle.ped_rules.specs.ped_steps.proofs.RunLaws.ScalarNames.{shown_scalar}
 use Rattle.ped_rules.specs.ped_symbols.specs.NameRefusals.{IsValid}
 use Rattle.ped_rules.specs.ped_laws.proofs.ActLaws.Lists.{in_parts, in_right}
 use Rattle.ped_rules.specs.ped_laws.proofs.ActLaws.SameCells.{cell_itself, cell_is}

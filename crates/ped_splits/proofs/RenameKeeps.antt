@@ -20,7 +20,7 @@ use Rattle.ped_rules.specs.ped_steps.proofs.RunLaws.SubstitutedShapes.{counts_ke
 use Rattle.ped_rules.specs.ped_steps.specs.Replacing.{alone}
 use Rattle.ped_rules.specs.ped_steps.specs.Runs.Gaps.{Gap, filled, number_at}
 use Rattle.ped_rules.specs.ped_steps.specs.Runs.Renumbering.{renumbered}
-use Rattle.ped_sums.specs.Substitution.{statements_substituted}
+use Rattle.ped_symbolic.specs.Substitution.{statements_substituted}
 use Rattle.ped_rules.specs.ped_laws.proofs.FlowRunLaws.Stopping.{fitting_stops, loop_stops}
 use Rattle.ped_rules.specs.ped_laws.proofs.ActLaws.Lists.{in_left, in_right}
 use Rattle.ped_rules.specs.ped_laws.proofs.RunLaws.StatementsTold.{all_told}

@@ -8,14 +8,14 @@ use Rattle.ped_tree.proofs.NameLaws.Collected.{among_append}
 use Rattle.ped_tree.specs.NamesIn.{cond_names, expr_names, head_names, saved_in, stmt_names, stmts_names}
 use Rattle.ped_tree.specs.Tree.{Do, If, ProgramTree, StmtTrees, Var, more_stmts, no_stmts}
 use Rattle.ped_rules.specs.ped_laws.proofs.FlowRunLaws.Names.{sorted_among}
-use Rattle.ped_rules.specs.ped_steps.proofs.RunLaws.ExpandedNamesSites.{stmts_at}
-use Rattle.ped_rules.specs.ped_steps.proofs.RunLaws.ExpandedNamesSubstituted.{in_stmts}
-use Rattle.ped_rules.specs.ped_steps.proofs.RunLaws.ExpandedPlacesStand.{variable_scalar}
+use Rattle.ped_rules.specs.ped_steps.proofs.RunLaws.NamesAtSites.{stmts_at}
+use Rattle.ped_rules.specs.ped_steps.proofs.RunLaws.SubstitutedNames.{in_stmts}
+use Rattle.ped_rules.specs.ped_steps.proofs.RunLaws.LoopVariables.{variable_scalar}
 use Rattle.ped_rules.specs.ped_steps.proofs.RunLaws.NamesKept.{occurs, occurs_append}
-use Rattle.ped_rules.specs.ped_steps.proofs.RunLaws.PrivatisedPrograms.{scalar_occurs}
+use Rattle.ped_rules.specs.ped_steps.proofs.RunLaws.ScalarNames.{scalar_occurs}
 use Rattle.ped_rules.specs.ped_steps.specs.Replacing.{alone, followed}
 use Rattle.ped_rules.specs.ped_steps.specs.Runs.Gaps.{Gap, at_front, filled, in_body, in_else, in_then, past}
-use Rattle.ped_sums.specs.Substitution.{statements_substituted}
+use Rattle.ped_symbolic.specs.Substitution.{statements_substituted}
 use Rattle.ped_rules.specs.ped_symbols.proofs.RightUseLaws.Quiet.{behind_append, said, said_stays, stmts_declare_nothing}
 use Rattle.ped_rules.specs.ped_symbols.proofs.RightUseLaws.Whole.{names_occur, same_values}
 use Rattle.ped_rules.specs.ped_symbols.specs.declared.symbols.Kind.{Kind}

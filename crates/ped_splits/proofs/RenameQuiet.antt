@@ -18,8 +18,8 @@ use Rattle.ped_rules.specs.ped_loop_runs.proofs.LoopLaws.OneForOneStands.{false_
 use Rattle.ped_rules.specs.ped_loop_runs.proofs.PastingLaws.LeftCopies.{IsOwn}
 use Rattle.ped_rules.specs.ped_loop_runs.specs.OtherCopies.{IsOfThese, LeaveApart, LeavesParallel}
 use Rattle.ped_rules.proofs.NameLaws.ReferencesThere.{all_end_within}
-use Rattle.ped_rules.specs.ped_steps.proofs.RunLaws.ExpandedPlacesStand.{variable_outside}
-use Rattle.ped_rules.specs.ped_steps.proofs.RunLaws.ExpandedRacesOrigins.{write_access, write_in, write_there}
+use Rattle.ped_rules.specs.ped_steps.proofs.RunLaws.LoopVariables.{variable_outside}
+use Rattle.ped_rules.specs.ped_steps.proofs.RunLaws.AccessTouches.{write_access, write_in, write_there}
 use Rattle.ped_rules.specs.ped_steps.specs.Replacing.{alone}
 use Rattle.ped_rules.specs.ped_steps.specs.Runs.Exchanging.{is_of_scalar}
 use Rattle.ped_rules.specs.ped_steps.specs.Tidy.{is_write_in, is_written_in}

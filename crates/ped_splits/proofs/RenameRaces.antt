@@ -5,8 +5,7 @@ use Rattle.std.proofs.lemmas.Bool.{and_parts, both_ways, lt-ltb}
 use Rattle.std.proofs.lemmas.Bool.Decides.{nat_tests}
 use Rattle.ped_tree.specs.Tree.{ProgramTree}
 use Rattle.ped_rules.specs.ped_loop_runs.proofs.LoopLaws.RacesByReferences.{read_is_referred}
-use Rattle.ped_rules.specs.ped_steps.proofs.RunLaws.ExpandedRacesOrigins.{IsTold, touch_of}
-use Rattle.ped_rules.specs.ped_steps.proofs.RunLaws.PrivatisedRacesOrigins.{accesses_from}
+use Rattle.ped_rules.specs.ped_steps.proofs.RunLaws.AccessTouches.{IsTold, touch_of, accesses_from}
 use Rattle.ped_rules.specs.ped_weaves.proofs.WeaveLaws.RaceSources.{pairs_free}
 use Rattle.ped_rules.specs.ped_weaves.specs.Sources.{RaceSomewhere}
 use Rattle.ped_rules.specs.ped_laws.proofs.ActLaws.Conflicting.{access_place}

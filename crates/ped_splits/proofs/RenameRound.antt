@@ -14,12 +14,12 @@ use Rattle.ped_tree.specs.Tree.{Assign, Comment, Do, Head, If, Print, ProgramTre
 use Rattle.ped_rules.proofs.NestLaws.IndicesApart.{variable_apart}
 use Rattle.ped_rules.specs.ped_loop_runs.proofs.LoopLaws.UnprivateIndices.{indices_unprivate}
 use Rattle.ped_rules.specs.ped_loop_runs.specs.OtherCopies.{HasOtherCopies, OfParallelRound}
-use Rattle.ped_rules.specs.ped_steps.proofs.RunLaws.ExpandedPlacesParts.{part_at}
+use Rattle.ped_rules.specs.ped_steps.proofs.RunLaws.ProgramParts.{part_at}
 use Rattle.ped_rules.specs.ped_steps.proofs.RunLaws.FilledGaps.{number_from, number_room}
 use Rattle.ped_rules.specs.ped_steps.proofs.RunLaws.SubstitutedShapes.{indices_kept}
 use Rattle.ped_rules.specs.ped_steps.specs.Replacing.{alone, followed}
 use Rattle.ped_rules.specs.ped_steps.specs.Runs.Gaps.{Gap, at_front, filled, in_body, in_else, in_then, number_at, past}
-use Rattle.ped_sums.specs.Substitution.{statements_substituted}
+use Rattle.ped_symbolic.specs.Substitution.{statements_substituted}
 use Rattle.ped_rules.specs.ped_laws.proofs.ActLaws.Renamings.{or_left, or_right}
 use Rattle.ped_rules.specs.ped_laws.proofs.FlowRunLaws.Standing.{Stand, else_stands, first_stands, inner_stands, is_there, rest_stands, whole_stands}
 use Rattle.ped_rules.specs.ped_laws.proofs.RunLaws.Turning.{once_among}

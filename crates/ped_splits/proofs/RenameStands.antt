@@ -20,11 +20,11 @@ use Rattle.ped_rules.specs.ped_loop_runs.proofs.LoopLaws.UnwantedNames.{unwritte
 use Rattle.ped_rules.specs.ped_loop_runs.proofs.PastingLaws.TheirCopies.{theirs}
 use Rattle.ped_rules.specs.ped_loop_runs.specs.Copies.{IsTheirs}
 use Rattle.ped_rules.specs.ped_loop_runs.specs.Executions.{IsCopyInside, IsExecuted, as_done}
-use Rattle.ped_rules.specs.ped_steps.proofs.RunLaws.ExpandedRacesOrigins.{write_in}
-use Rattle.ped_rules.specs.ped_steps.proofs.RunLaws.PastedStores.{execution_left}
-use Rattle.ped_rules.specs.ped_steps.proofs.RunLaws.PrivatisedPrograms.{shown_scalar}
+use Rattle.ped_rules.specs.ped_steps.proofs.RunLaws.AccessTouches.{write_in}
+use Rattle.ped_rules.specs.ped_steps.proofs.RunLaws.LeftLoops.{execution_left}
+use Rattle.ped_rules.specs.ped_steps.proofs.RunLaws.ScalarNames.{shown_scalar}
 use Rattle.ped_rules.specs.ped_steps.specs.Replacing.{alone}
-use Rattle.ped_sums.specs.Substitution.{statements_substituted}
+use Rattle.ped_symbolic.specs.Substitution.{statements_substituted}
 use Rattle.ped_rules.specs.ped_weaves.proofs.WeaveLaws.AgreedApart.{both_stand}
 use Rattle.ped_rules.specs.ped_weaves.proofs.WeaveLaws.PutFor.{kept_stands, put_stands}
 use Rattle.ped_rules.specs.ped_weaves.specs.Puttings.{IsPutFor, Suit}

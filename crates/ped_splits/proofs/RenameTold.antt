@@ -8,13 +8,12 @@ use Rattle.ped_tree.specs.Numbering.{all_numbered, at_place, numbered, statement
 use Rattle.ped_tree.specs.Tree.{Assign, Comment, Do, Head, If, Print, ProgramTree, Read, StmtTree, StmtTrees, Stop, Var, more_stmts, no_stmts}
 use Rattle.ped_rules.specs.ped_affine.specs.Assigned.{assigned_in_all}
 use Rattle.ped_rules.specs.ped_loop_runs.proofs.TidyLaws.TidyReferencesGaps.{each_of_program}
-use Rattle.ped_rules.specs.ped_steps.proofs.RunLaws.ExpandedRacesOrigins.{IsTold, touch_of, write_there}
-use Rattle.ped_rules.specs.ped_steps.proofs.RunLaws.PrivatisedRacesOrigins.{accesses_from}
+use Rattle.ped_rules.specs.ped_steps.proofs.RunLaws.AccessTouches.{IsTold, touch_of, write_there, accesses_from}
 use Rattle.ped_rules.specs.ped_steps.proofs.RunLaws.RunPlaces.{all_each}
 use Rattle.ped_rules.specs.ped_steps.proofs.RunLaws.SparedVariables.{IsUnassigned, variables_unassigned}
 use Rattle.ped_rules.specs.ped_steps.specs.Replacing.{alone}
 use Rattle.ped_rules.specs.ped_steps.specs.Runs.Gaps.{Gap, at_front, filled, in_body, in_else, in_then, past}
-use Rattle.ped_sums.specs.Substitution.{statement_substituted, statements_substituted}
+use Rattle.ped_symbolic.specs.Substitution.{statement_substituted, statements_substituted}
 use Rattle.ped_rules.specs.ped_symbols.specs.Kinds.{kind_in}
 use Rattle.ped_rules.specs.ped_laws.proofs.ActLaws.Lists.{in_left, in_parts, in_right}
 use Rattle.ped_rules.specs.ped_laws.proofs.ActLaws.SameCells.{cell_is}

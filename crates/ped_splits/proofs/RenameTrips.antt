@@ -23,10 +23,10 @@ use Rattle.ped_rules.specs.ped_bodies.specs.Trips.{IsMadeOfTrips, IsTrip, MakesT
 use Rattle.ped_rules.specs.ped_loop_runs.proofs.LoopLaws.OneForOneCells.{all_unread, cell_among}
 use Rattle.ped_rules.specs.ped_loop_runs.proofs.LoopLaws.OneForOneNames.{variables_unnamed}
 use Rattle.ped_rules.specs.ped_loop_runs.proofs.TidyLaws.TidyReferencesGaps.{each_of_program}
-use Rattle.ped_rules.specs.ped_steps.proofs.RunLaws.ExpandedPlacesParts.{part_at}
-use Rattle.ped_rules.specs.ped_steps.proofs.RunLaws.ExpandedRacesOrigins.{write_there}
+use Rattle.ped_rules.specs.ped_steps.proofs.RunLaws.ProgramParts.{part_at}
+use Rattle.ped_rules.specs.ped_steps.proofs.RunLaws.AccessTouches.{write_there}
 use Rattle.ped_rules.specs.ped_steps.proofs.RunLaws.SparedVariables.{IsUnassigned, variables_unassigned}
-use Rattle.ped_sums.specs.Substitution.{statements_substituted, substituted}
+use Rattle.ped_symbolic.specs.Substitution.{statements_substituted, substituted}
 use Rattle.ped_rules.specs.ped_symbols.proofs.RightUseLaws.Whole.{others_unvalued}
 use Rattle.ped_rules.specs.ped_symbols.specs.Kinds.{at_last, kind_in}
 use Rattle.ped_rules.specs.ped_symbols.specs.RightUses.RightLoops.{is_step, step_is_right, steps_are_right, stmt_steps_are_right}

@@ -20,8 +20,7 @@ use Rattle.ped_rules.specs.ped_bodies.proofs.BodyLaws.NamesApart.{behind_is, dis
 use Rattle.ped_rules.specs.ped_bodies.specs.Likewise.{IsMadeLikewise, IsOnlyTold, Meet}
 use Rattle.ped_rules.specs.ped_bodies.specs.Moving.{behind_front, in_loop, moved_behind, own_number, with_rest}
 use Rattle.ped_rules.specs.ped_bodies.specs.Trips.{IsMadeOfTrips, loop_acts, loop_entry}
-use Rattle.ped_rules.specs.ped_steps.proofs.RunLaws.ExpandedRacesOrigins.{touch_of}
-use Rattle.ped_rules.specs.ped_steps.proofs.RunLaws.PrivatisedRacesOrigins.{accesses_from}
+use Rattle.ped_rules.specs.ped_steps.proofs.RunLaws.AccessTouches.{touch_of, accesses_from}
 use Rattle.ped_rules.specs.ped_steps.specs.Replacing.{alone}
 use Rattle.ped_rules.specs.ped_steps.specs.Runs.Renumbering.{renumbered}
 use Rattle.ped_rules.specs.ped_flow.specs.Questions.{LoopOf}

@@ -13,7 +13,7 @@ use Rattle.ped_rules.specs.ped_loop_runs.proofs.LoopLaws.OldRaces.{acts_outside,
 use Rattle.ped_rules.specs.ped_loop_runs.proofs.LoopLaws.OldRaces as origins
 use Rattle.ped_rules.specs.ped_loop_runs.specs.Executions.{IsExecuted, LeaveCopies, StandsInside}
 use Rattle.ped_rules.specs.ped_loop_runs.specs.Pasting.{AreExchanged, IsExchanged}
-use Rattle.ped_rules.specs.ped_steps.proofs.RunLaws.PrivatisedRacesOrigins.{accesses_from}
+use Rattle.ped_rules.specs.ped_steps.proofs.RunLaws.AccessTouches.{accesses_from}
 use Rattle.ped_rules.specs.ped_steps.specs.Runs.Renumbering.{IsToldBack, renumbered}
 use Rattle.ped_rules.specs.ped_flow.specs.PlainBounds.{nest_round}
 use Rattle.ped_rules.specs.ped_symbols.specs.NameRefusals.{IsValid}

@@ -29,9 +29,9 @@ use Rattle.ped_rules.specs.ped_loop_runs.proofs.LoopLaws.OneForOneCells.{among_o
 use Rattle.ped_rules.specs.ped_loop_runs.proofs.LoopLaws.OneForOneNames.{variables_unnamed}
 use Rattle.ped_rules.specs.ped_loop_runs.proofs.PastingLaws.LeftCopies.{IsOwn, run_reaches}
 use Rattle.ped_rules.specs.ped_loop_runs.proofs.PastingLaws.TheirCopies.{theirs, theirs_unneeded}
-use Rattle.ped_rules.specs.ped_steps.proofs.RunLaws.ExpandedRacesOrigins.{write_in}
-use Rattle.ped_rules.specs.ped_steps.proofs.RunLaws.PastedStores.{execution_left}
-use Rattle.ped_rules.specs.ped_steps.proofs.RunLaws.PrivatisedPrograms.{shown_scalar}
+use Rattle.ped_rules.specs.ped_steps.proofs.RunLaws.AccessTouches.{write_in}
+use Rattle.ped_rules.specs.ped_steps.proofs.RunLaws.LeftLoops.{execution_left}
+use Rattle.ped_rules.specs.ped_steps.proofs.RunLaws.ScalarNames.{shown_scalar}
 use Rattle.ped_rules.specs.ped_steps.specs.Runs.Exchanging.{is_of_scalar}
 use Rattle.ped_rules.specs.ped_laws.proofs.FlowRunLaws.DeadExits.{unwanted_behind}
 use Rattle.ped_rules.specs.ped_laws.proofs.FlowRunLaws.Stopping.{fitting_stops}

@@ -13,7 +13,7 @@ use Rattle.ped_tree.specs.Grammar.LimitNumbers.{most_loops_nested, most_blocks_n
 use Rattle.ped_rules.proofs.NameLaws.SubstitutedReferences.{other_unwritten}
 use Rattle.ped_rules.specs.ped_loop_runs.proofs.TidyLaws.TidyReferencesGaps.{each_of_program}
 use Rattle.ped_rules.specs.ped_loop_runs.specs.Writing.{all_write, writes, writes_left, writes_name}
-use Rattle.ped_rules.specs.ped_steps.proofs.RunLaws.ExpandedPlacesParts.{part_at}
+use Rattle.ped_rules.specs.ped_steps.proofs.RunLaws.ProgramParts.{part_at}
 use Rattle.ped_rules.specs.ped_steps.proofs.RunLaws.SparedVariables.{IsUnassigned, variables_unassigned}
 use Rattle.ped_rules.specs.ped_affine.specs.Assigned.{assigned_left, assigned_in, assigned_in_all}
 use Rattle.ped_rules.specs.ped_flow.specs.Questions.{LoopOf}

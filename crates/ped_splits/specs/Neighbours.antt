@@ -6,7 +6,7 @@ use Rattle.ped_tree.specs.Tree.{Var, Head, StmtTrees, Do, more_stmts, ProgramTre
 use Rattle.ped_tree.specs.Numbering.{statements_count}
 use Rattle.ped_tree.specs.Names.Collecting.{with_names}
 use Rattle.ped_tree.specs.NamesIn.{stmts_names}
-use Rattle.ped_sums.specs.Substitution.{statements_substituted}
+use Rattle.ped_symbolic.specs.Substitution.{statements_substituted}
 use Rattle.ped_rules.specs.ped_steps.specs.Replacing.{followed, alone}
 use Rattle.ped_rules.specs.ped_steps.specs.Runs.Gaps.{Gap, filled, number_at}
 use Rattle.ped_rules.specs.KeepMaps.{closed_up}

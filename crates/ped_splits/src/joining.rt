@@ -16,7 +16,7 @@ use crate::alike::is_same;
 use crate::neighbours::Pair;
 use ped_base::{Listed, Name, Names, NoMemory, is_among};
 use ped_rules::{Keep, is_comment};
-use ped_sums::substitute_in_statements;
+use ped_symbolic::substitute_in_statements;
 use ped_tree::{Do, Expr, Program, Stmt, copy_decls, count_statement, count_statements};
 use std::alloc::Global;
 

@@ -1,4 +1,4 @@
-pub use Rattle.ped_sums
+pub use Rattle.ped_symbolic
 pub use Rattle.ped_refs
 pub use Rattle.ped_edges
 pub use Rattle.ped_weaves

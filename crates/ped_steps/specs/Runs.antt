@@ -3,7 +3,6 @@ pub mod Exchanging
 pub mod Gaps
 pub mod Pasting
 pub mod Meaning
-pub mod Privatising
 pub mod Substituting
 pub mod Renumbering
 pub mod Expanding

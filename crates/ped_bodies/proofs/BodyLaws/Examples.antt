@@ -1,8 +1,8 @@
 -- Bodies of loops at work: copies of a private scalar in each step on loops, an expression that is put in, and a loop that is reversed, trip by trip.
 use Rattle.std.proofs.Common.{◌≡◌, ◌≤◌, ℕ, ◌+◌, ◌-◌, List, [], ◌∷◌, refl, arith}
 use Rattle.ped_steps.specs.ped_flow.specs.ped_tree.specs.Tree.{Int, Var, Element, Add, Sub, Mul, no_exprs, more_exprs, Head, StmtTrees, Assign, no_stmts, more_stmts}
-use Rattle.ped_steps.specs.ped_sums.specs.Sums.{times_of}
-use Rattle.ped_steps.specs.ped_sums.specs.Substitution.{statements_substituted}
+use Rattle.ped_steps.specs.ped_symbolic.specs.Arithmetic.{times_of}
+use Rattle.ped_steps.specs.ped_symbolic.specs.Substitution.{statements_substituted}
 use Rattle.ped_steps.specs.ped_store.specs.Cells.{Private, Iteration}
 use Rattle.ped_steps.specs.ped_store.specs.Stores.{Store}
 use Rattle.ped_steps.specs.ped_store.specs.Acts.{iterations_of}

@@ -7,7 +7,7 @@ use Rattle.ped_steps.specs.ped_flow.specs.ped_base.proofs.NameEquality.{same_is}
 use Rattle.ped_steps.specs.ped_flow.specs.ped_tree.specs.Constants.NamedConstants.{value_named}
 use Rattle.ped_steps.specs.ped_flow.specs.ped_tree.specs.Tree.{ExprTree, Var, StmtTrees}
 use Rattle.ped_steps.specs.ped_flow.specs.ped_tree.specs.NamesIn.{stmts_names}
-use Rattle.ped_steps.specs.ped_sums.specs.Substitution.{substituted, all_substituted, statements_substituted}
+use Rattle.ped_steps.specs.ped_symbolic.specs.Substitution.{substituted, all_substituted, statements_substituted}
 use Rattle.ped_steps.specs.ped_store.specs.Cells.{Cell, Scalar, Element, Private, In, Out, Iteration}
 use Rattle.ped_steps.specs.ped_store.specs.Acts.{Turn, iterations_of}
 use Rattle.ped_steps.specs.ped_laws.specs.Acts.Renaming.{own_name}

@@ -13,7 +13,7 @@ use Rattle.ped_steps.specs.ped_flow.specs.ped_tree.specs.Constants.NamedConstant
 use Rattle.ped_steps.specs.ped_flow.specs.ped_tree.specs.Constants.ConstantExpressions.{intrinsic_result}
 use Rattle.ped_steps.specs.ped_flow.specs.ped_tree.specs.Tree.{ExprTree, ExprTrees, Int, Var, Element, Neg, Add, Sub, Mul, Div, Pow, Call, no_exprs, more_exprs, CondTree, Rel, Not, And, Or, ItemTree, Value, Text, Head}
 use Rattle.ped_steps.specs.ped_flow.specs.ped_tree.specs.NamesIn.{expr_names, exprs_names, cond_names, item_names}
-use Rattle.ped_steps.specs.ped_sums.specs.Sums.{plus_of, minus_of}
+use Rattle.ped_steps.specs.ped_symbolic.specs.Arithmetic.{plus_of, minus_of}
 use Rattle.ped_steps.specs.ped_affine.specs.Assigned.{assigned_left}
 use Rattle.ped_steps.specs.ped_store.specs.Cells as cells
 use Rattle.ped_steps.specs.ped_store.specs.Cells.{Cell}

@@ -11,8 +11,8 @@ use Rattle.ped_steps.specs.ped_flow.specs.ped_base.proofs.NameEquality.{same_is}
 use Rattle.ped_steps.specs.ped_flow.specs.ped_tree.specs.Constants.NamedConstants.{value_named}
 use Rattle.ped_steps.specs.ped_flow.specs.ped_tree.specs.Constants.ConstantExpressions.{unary_value, binary_value, onto, intrinsic_result, constant_value, constant_values}
 use Rattle.ped_steps.specs.ped_flow.specs.ped_tree.specs.Tree.{ExprTree, ExprTrees, Int, Var, Element, Neg, Add, Sub, Mul, Div, Pow, Call, no_exprs, more_exprs, CondTree, Rel, Not, And, Or, ItemTree, Value, Text, StmtTree, StmtTrees, Assign, If, Do, Print, Read, Stop, Comment, no_stmts, more_stmts}
-use Rattle.ped_steps.specs.ped_sums.specs.Sums.{plus_of, minus_of}
-use Rattle.ped_steps.specs.ped_sums.specs.Substitution.{has_scalar, have_scalar, is_scalar, changes, substituted, all_substituted, condition_substituted, item_substituted, head_substituted, statement_substituted, statements_substituted}
+use Rattle.ped_steps.specs.ped_symbolic.specs.Arithmetic.{plus_of, minus_of}
+use Rattle.ped_steps.specs.ped_symbolic.specs.Substitution.{has_scalar, have_scalar, is_scalar, changes, substituted, all_substituted, condition_substituted, item_substituted, head_substituted, statement_substituted, statements_substituted}
 use Rattle.ped_steps.proofs.RunLaws.SubstitutedShapes.{stays}
 use Rattle.ped_bodies.specs.Rewriting.{IsRewriting, unchanged, all_unchanged, condition_rewritten, item_rewritten, statement_rewritten, statements_rewritten, OfHeads, OfAllHeads, KeepsIncrement, HaveIncrements, MayBeRewritten}
 

@@ -11,8 +11,8 @@ use Rattle.ped_steps.specs.ped_flow.specs.ped_base.specs.Arithmetic.Arithmetic.{
 use Rattle.ped_steps.specs.ped_flow.specs.ped_base.proofs.NameEquality.{same_is}
 use Rattle.ped_steps.specs.ped_flow.specs.ped_tree.specs.Constants.NamedConstants.{value_named}
 use Rattle.ped_steps.specs.ped_flow.specs.ped_tree.specs.Tree.{ExprTree, Int, Var, Neg, Add, Sub, Mul}
-use Rattle.ped_steps.specs.ped_sums.specs.Sums.{literal, times_of}
-use Rattle.ped_steps.specs.ped_sums.specs.Substitution.{substituted}
+use Rattle.ped_steps.specs.ped_symbolic.specs.Arithmetic.{literal, times_of}
+use Rattle.ped_steps.specs.ped_symbolic.specs.Substitution.{substituted}
 use Rattle.ped_steps.specs.ped_store.specs.Cells.{Cell}
 use Rattle.ped_steps.specs.ped_store.specs.Stores.{Store}
 use Rattle.ped_steps.specs.ped_eval.specs.Scopes.{Setting, Scope, cell_of, index_value, names_in}

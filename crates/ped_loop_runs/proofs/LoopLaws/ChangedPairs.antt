@@ -9,7 +9,7 @@ use Rattle.ped_bodies.specs.ped_laws.specs.Acts.Orders.{IsIn, StandsBefore}
 use Rattle.ped_bodies.specs.ped_laws.specs.Acts.Pieces.{Part, same, changed, old_parts, new_parts}
 use Rattle.ped_bodies.specs.ped_laws.proofs.ActLaws.Lists.{in_left, in_right, in_parts, first_in, second_in, before_parts}
 use Rattle.ped_bodies.specs.ped_laws.proofs.ActLaws.Conflicting.{accesses_in}
-use Rattle.ped_bodies.specs.ped_steps.proofs.RunLaws.PrivatisedRacesOrigins.{accesses_from}
+use Rattle.ped_bodies.specs.ped_steps.proofs.RunLaws.AccessTouches.{accesses_from}
 use Rattle.ped_loop_runs.specs.Pasting.{AreChangedBy}
 
 -- the accesses of acts are among those of more acts

@@ -15,8 +15,7 @@ use Rattle.ped_bodies.specs.ped_laws.proofs.ActLaws.Conflicting.{access_place}
 use Rattle.ped_bodies.specs.ped_laws.proofs.ActLaws.RaceFree.{apart_flip}
 use Rattle.ped_bodies.specs.ped_laws.proofs.RunLaws.Turning.{At}
 use Rattle.ped_bodies.specs.ped_laws.proofs.RunLaws.Placing.{kinds_of_run}
-use Rattle.ped_bodies.specs.ped_steps.proofs.RunLaws.PrivatisedRacesOrigins.{accesses_from}
-use Rattle.ped_bodies.specs.ped_steps.proofs.RunLaws.ExpandedRacesOrigins.{touch_of}
+use Rattle.ped_bodies.specs.ped_steps.proofs.RunLaws.AccessTouches.{accesses_from, touch_of}
 use Rattle.ped_bodies.specs.ped_weaves.specs.Sources.{RaceSomewhere}
 use Rattle.ped_loop_runs.specs.Executions.{StandsInside, LeaveCopies}
 use Rattle.ped_loop_runs.proofs.LoopLaws.ApartTurns.{apart_first, apart_split, at_of, iterations_append, none_within, or_turned}

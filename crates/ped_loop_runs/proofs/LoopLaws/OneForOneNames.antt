@@ -23,9 +23,9 @@ use Rattle.ped_bodies.specs.ped_symbols.specs.RightUses.RightUses.{NameKinds, is
 use Rattle.ped_bodies.specs.ped_symbols.proofs.RightUseLaws.Whole.{same_kinds, names_occur}
 use Rattle.ped_bodies.specs.ped_steps.specs.Replacing.{alone, program_with}
 use Rattle.ped_bodies.specs.ped_steps.proofs.RunLaws.NamesKept.{occurs, occurs_append, Alike, AreAlike, alike_itself, append_alike, same_alike, by_sites, names_kept}
-use Rattle.ped_bodies.specs.ped_steps.proofs.RunLaws.PrivatisedPrograms.{scalar_occurs, scalar_named, statement_in}
-use Rattle.ped_bodies.specs.ped_steps.proofs.RunLaws.ExpandedPlacesParts.{part_at}
-use Rattle.ped_bodies.specs.ped_steps.proofs.RunLaws.ExpandedPlacesStand.{variable_scalar}
+use Rattle.ped_bodies.specs.ped_steps.proofs.RunLaws.ScalarNames.{scalar_occurs, scalar_named, statement_in}
+use Rattle.ped_bodies.specs.ped_steps.proofs.RunLaws.ProgramParts.{part_at}
+use Rattle.ped_bodies.specs.ped_steps.proofs.RunLaws.LoopVariables.{variable_scalar}
 
 -- the variables of DO loops are scalars
 appended : (k : NameKinds) (xs ys : List (List ℕ)) → list_all (is_scalar k) xs ≡ true → list_all (is_scalar k) ys ≡ true → list_all (is_scalar k) (xs ++ ys) ≡ true

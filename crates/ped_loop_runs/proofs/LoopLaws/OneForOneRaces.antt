@@ -20,8 +20,7 @@ use Rattle.ped_bodies.specs.ped_laws.specs.Runs.Replaying.{goes_on, finish_of}
 use Rattle.ped_bodies.specs.ped_laws.proofs.ActLaws.Lists.{in_left, in_right, in_parts}
 use Rattle.ped_bodies.specs.ped_laws.proofs.ActLaws.Conflicting.{access_by, access_in, access_place, accesses_in}
 use Rattle.ped_bodies.specs.ped_steps.specs.Replacing.{alone}
-use Rattle.ped_bodies.specs.ped_steps.proofs.RunLaws.PrivatisedRacesOrigins.{accesses_from}
-use Rattle.ped_bodies.specs.ped_steps.proofs.RunLaws.ExpandedRacesOrigins.{touch_of}
+use Rattle.ped_bodies.specs.ped_steps.proofs.RunLaws.AccessTouches.{accesses_from, touch_of}
 use Rattle.ped_bodies.specs.Likewise.{NamesScalars, IsMadeLikewise, IsOnlyTold}
 use Rattle.ped_bodies.specs.Moving.{own_number}
 use Rattle.ped_bodies.specs.Trips.{loop_entry, loop_acts, bounds_seen, entered_from}

@@ -44,7 +44,7 @@ use Rattle.ped_bodies.specs.ped_flow.specs.Questions.{LoopOf}
 use Rattle.ped_bodies.specs.ped_laws.proofs.RunLaws.Turning.{inner_among}
 use Rattle.ped_bodies.specs.ped_steps.specs.Replacing.{alone}
 use Rattle.ped_bodies.specs.ped_steps.proofs.RunLaws.RunPlaces.{stands_in}
-use Rattle.ped_bodies.specs.ped_steps.proofs.RunLaws.ExpandedRacesOrigins.{write_in}
+use Rattle.ped_bodies.specs.ped_steps.proofs.RunLaws.AccessTouches.{write_in}
 use Rattle.ped_bodies.specs.ped_weaves.specs.Puttings.{Suit, IsPutFor}
 use Rattle.ped_bodies.specs.ped_weaves.specs.Weaves.{Knot, block, control, Weave, blocks_in, old_list, new_list, counted, IsWoven, AreInverse, old_trips, new_trips}
 use Rattle.ped_bodies.specs.ped_weaves.proofs.WeaveLaws.KnotRows.{knotted_rows, blocks_rows, in_row}

@@ -19,8 +19,7 @@ use Rattle.ped_bodies.specs.ped_laws.proofs.ActLaws.RaceFree.{apart_flip}
 use Rattle.ped_bodies.specs.ped_laws.proofs.RunLaws.Touches.{Fine, Good, all_good}
 use Rattle.ped_bodies.specs.ped_laws.proofs.RunLaws.Meetings.{accesses_of_run}
 use Rattle.ped_bodies.specs.ped_laws.proofs.RunLaws.Placing.{kinds_of_run}
-use Rattle.ped_bodies.specs.ped_steps.proofs.RunLaws.PrivatisedRacesOrigins.{accesses_from}
-use Rattle.ped_bodies.specs.ped_steps.proofs.RunLaws.ExpandedRacesOrigins.{IsTold, touch_of}
+use Rattle.ped_bodies.specs.ped_steps.proofs.RunLaws.AccessTouches.{accesses_from, IsTold, touch_of}
 use Rattle.ped_bodies.specs.ped_steps.proofs.RunLaws.ToldRaces.{told_races_not}
 
 abbrev Any : List Turn → Cell → Type 0

@@ -23,8 +23,7 @@ use Rattle.ped_bodies.specs.ped_laws.proofs.ActLaws.Conflicting.{accesses_in}
 use Rattle.ped_bodies.specs.ped_laws.proofs.RunLaws.Turning.{At}
 use Rattle.ped_bodies.specs.ped_steps.specs.Replacing.{alone}
 use Rattle.ped_bodies.specs.ped_steps.specs.Runs.Renumbering.{renumbered_turn}
-use Rattle.ped_bodies.specs.ped_steps.proofs.RunLaws.PrivatisedRacesOrigins.{accesses_from}
-use Rattle.ped_bodies.specs.ped_steps.proofs.RunLaws.ExpandedRacesOrigins.{touch_of}
+use Rattle.ped_bodies.specs.ped_steps.proofs.RunLaws.AccessTouches.{accesses_from, touch_of}
 use Rattle.ped_bodies.specs.ped_weaves.specs.Sources.{RaceSomewhere}
 use Rattle.ped_bodies.specs.ped_weaves.proofs.WeaveLaws.RaceSources.{pairs_free}
 use Rattle.ped_loop_runs.specs.Executions.{StandsInside, LeaveCopies, IsExecuted}

@@ -16,7 +16,7 @@ use Rattle.ped_bodies.specs.ped_flow.specs.ped_tree.specs.Grammar.ProgramRefusal
 use Rattle.ped_bodies.specs.ped_flow.specs.ped_tree.specs.Grammar.Fits.{Surroundings, moved, in_if, in_loop, private_fits, loop_fits, stmt_fits, stmts_fit}
 use Rattle.ped_bodies.specs.ped_flow.specs.ped_tree.specs.NamesIn.{loop_variables, all_loop_variables}
 use Rattle.ped_bodies.specs.ped_laws.proofs.ConflictLaws.MakingParts.{among_first, among_right}
-use Rattle.ped_bodies.specs.ped_steps.proofs.RunLaws.ExpandedPlacesParts.{not_true}
+use Rattle.ped_bodies.specs.ped_steps.proofs.RunLaws.ProgramParts.{not_true}
 
 none_of : (a b : Bool) → a || b ≡ false → (a ≡ false) × (b ≡ false)
 none_of true b e = absurd cc

@@ -23,9 +23,9 @@ use Rattle.ped_bodies.specs.ped_eval.specs.Runs.{run}
 use Rattle.ped_bodies.specs.ped_eval.specs.Scopes.{Setting, Scope, cell_of}
 use Rattle.ped_bodies.specs.ped_steps.specs.Replacing.{alone}
 use Rattle.ped_bodies.specs.ped_steps.specs.Runs.Exchanging.{is_of_scalar}
-use Rattle.ped_bodies.specs.ped_steps.proofs.RunLaws.ExpandedRacesOrigins.{write_in}
-use Rattle.ped_bodies.specs.ped_steps.proofs.RunLaws.PrivatisedPrograms.{shown_scalar}
-use Rattle.ped_bodies.specs.ped_steps.proofs.RunLaws.PastedStores.{execution_left}
+use Rattle.ped_bodies.specs.ped_steps.proofs.RunLaws.AccessTouches.{write_in}
+use Rattle.ped_bodies.specs.ped_steps.proofs.RunLaws.ScalarNames.{shown_scalar}
+use Rattle.ped_bodies.specs.ped_steps.proofs.RunLaws.LeftLoops.{execution_left}
 use Rattle.ped_bodies.specs.Moving.{is_cell_among}
 use Rattle.ped_loop_runs.specs.Executions.{IsCopyInside, IsExecuted, as_done}
 use Rattle.ped_loop_runs.proofs.PastingLaws.LeftCopies.{IsOwn, run_reaches}

@@ -35,7 +35,7 @@ use Rattle.ped_bodies.specs.ped_laws.proofs.ActLaws.Lists.{in_left, in_right}
 use Rattle.ped_bodies.specs.ped_laws.proofs.ConflictLaws.CoveringDirections.{same_numbers}
 use Rattle.ped_bodies.specs.ped_laws.proofs.ConflictLaws.CoveringEdges.{IsBetween, is_listed, edge_between}
 use Rattle.ped_bodies.specs.ped_steps.specs.Tidy.{is_written_in}
-use Rattle.ped_bodies.specs.ped_steps.proofs.RunLaws.PrivatisedPrograms.{scalar_named}
+use Rattle.ped_bodies.specs.ped_steps.proofs.RunLaws.ScalarNames.{scalar_named}
 use Rattle.ped_bodies.specs.ped_steps.proofs.RunLaws.ReplacedTrees as trees
 use Rattle.ped_loop_runs.specs.Writing.{all_write}
 use Rattle.ped_loop_runs.proofs.TidyLaws.TidyReferences.{written_is}

@@ -8,7 +8,7 @@ use Rattle.ped_base.specs.Lists.{is_same_text, is_among}
 use Rattle.ped_base.specs.declared.arithmetic.faults.Fault.{Fault}
 use Rattle.ped_base.specs.Arithmetic.Arithmetic.{sum_of, difference_of, negation_of, product_of, quotient_of, power_of}
 use Rattle.ped_base.proofs.NameEquality.{same_is}
-use Rattle.ped_loop_runs.specs.ped_sums.specs.Sums.{literal}
+use Rattle.ped_loop_runs.specs.ped_symbolic.specs.Arithmetic.{literal}
 use Rattle.ped_tree.specs.declared.expressions.Intrinsic.{Intrinsic}
 use Rattle.ped_tree.specs.Constants.NamedConstants.{value_named}
 use Rattle.ped_tree.specs.Constants.ConstantExpressions.{unary_value, binary_value, onto, intrinsic_result, constant_value, constant_values}

@@ -9,7 +9,7 @@ use Rattle.ped_loop_runs.specs.ped_laws.specs.Acts.Orders.{IsIn}
 use Rattle.ped_loop_runs.specs.ped_graph.specs.Dependences.{AreEdges}
 use Rattle.ped_loop_runs.specs.ped_graph.specs.DependencePane as pane
 use Rattle.ped_edges.specs.Edges.{Mark, proven, pending, rejected, Edge, is_rejected}
-use Rattle.ped_loop_runs.specs.ped_graph.specs.Update.Fresh.{IsOneToOne}
+use Rattle.ped_loop_runs.specs.ped_graph.specs.Keeping.{IsOneToOne}
 use Rattle.ped_loop_runs.specs.ped_symbols.specs.NameRefusals.{IsValid}
 use Rattle.ped_loop_runs.specs.ped_flow.specs.Questions.{LoopOf, IsIndexIn, IsContained}
 use Rattle.ped_loop_runs.specs.ped_steps.specs.Causes.{NoRule}

@@ -9,7 +9,7 @@ use Rattle.ped_loop_runs.specs.ped_eval.specs.Loops.{in_bounds, is_bound, limits
 use Rattle.ped_loop_runs.specs.ped_eval.specs.Scopes.{Names}
 use Rattle.ped_loop_runs.specs.ped_eval.specs.Values.{binary, name_value, of_intrinsic, unary, value, values}
 use Rattle.ped_loop_runs.specs.ped_store.specs.Stores.{Store, out_of_range}
-use Rattle.ped_loop_runs.specs.ped_sums.specs.Sums.{literal}
+use Rattle.ped_loop_runs.specs.ped_symbolic.specs.Arithmetic.{literal}
 use Rattle.ped_tree.specs.Constants.ConstantExpressions.{binary_value, constant_value, constant_values, intrinsic_result, onto, unary_value}
 use Rattle.ped_tree.specs.Constants.NamedConstants.{value_named}
 use Rattle.ped_tree.specs.Tree.{Add, Call, Div, Element, ExprTree, ExprTrees, Head, Int, Mul, Neg, Pow, Sub, Var, more_exprs, no_exprs}

@@ -9,7 +9,7 @@ use Rattle.ped_tree.specs.NamesIn.{all_loop_variables}
 use Rattle.ped_loop_runs.specs.ped_flow.specs.Summaries.{passing, unreached, summary_in_turn, summary_either, summary_of, summary_of_all, summary_behind, summary_behind_all}
 use Rattle.ped_loop_runs.specs.ped_flow.proofs.Truths.{untrue}
 use Rattle.ped_loop_runs.specs.ped_laws.specs.FlowRuns.Covering.{has_stop, some_stop}
-use Rattle.ped_loop_runs.specs.ped_sums.specs.Substitution.{substituted, head_substituted, condition_substituted, item_substituted, statement_substituted, statements_substituted}
+use Rattle.ped_loop_runs.specs.ped_symbolic.specs.Substitution.{substituted, head_substituted, condition_substituted, item_substituted, statement_substituted, statements_substituted}
 use Rattle.ped_loop_runs.specs.ped_steps.proofs.RunLaws.SubstitutedShapes.{count_kept, counts_kept}
 use Rattle.ped_loop_runs.proofs.TidyLaws.TidyPathsSums.{IsNoMore, AreNoMore, ClearsAll, append_more, no_more, either_more, lefts, own_more, loop_more, do_more, if_more, more_more}
 use Rattle.ped_loop_runs.proofs.TidyLaws.TidyPathsGaps.{loop_behind_more, rest_behind_more}

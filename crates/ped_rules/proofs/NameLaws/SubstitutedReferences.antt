@@ -6,7 +6,7 @@ use Rattle.std.proofs.lemmas.Bool.{and_parts, or_parts}
 use Rattle.ped_base.specs.Lists.{is_same_text, is_among}
 use Rattle.ped_tree.specs.Tree.{ExprTree, Int, Var, Element, Neg, Add, Sub, Mul, Div, Pow, Call, StmtTree, StmtTrees, Assign, If, Do, Print, Read, Stop, Comment, no_stmts, more_stmts}
 use Rattle.ped_tree.specs.NamesIn.{loop_variables, all_loop_variables}
-use Rattle.ped_loop_runs.specs.ped_sums.specs.Substitution.{substituted, statement_substituted, statements_substituted}
+use Rattle.ped_loop_runs.specs.ped_symbolic.specs.Substitution.{substituted, statement_substituted, statements_substituted}
 use Rattle.ped_loop_runs.specs.ped_symbols.specs.RightUses.RightUses.{NameKinds, expr_is_right, target_is_right, cond_is_right, head_is_right, stmt_is_right, stmts_are_right}
 use Rattle.ped_loop_runs.specs.ped_steps.specs.Replacing.{followed}
 use Rattle.ped_loop_runs.specs.ped_steps.specs.Runs.Gaps.{Gap, at_front, past, in_then, in_else, in_body, filled}

@@ -2,7 +2,7 @@
 use Rattle.std.proofs.Common.{◌≡◌, ℕ, List, ◌||◌, refl}
 use Rattle.ped_base.specs.Lists.{has_some}
 use Rattle.ped_tree.specs.Tree.{ExprTree, StmtTree, StmtTrees, Assign, If, Do, Print, Read, Stop, Comment, no_stmts, more_stmts}
-use Rattle.ped_loop_runs.specs.ped_sums.specs.Substitution.{statement_substituted, statements_substituted}
+use Rattle.ped_loop_runs.specs.ped_symbolic.specs.Substitution.{statement_substituted, statements_substituted}
 use Rattle.ped_loop_runs.specs.Unrejected.{has_rejection, some_rejection}
 
 module _ (x : List ℕ) (by : ExprTree) where

@@ -8,9 +8,9 @@ use Rattle.ped_base.specs.Lists.{is_among, is_same_text}
 use Rattle.ped_rules.proofs.NestLaws.InnerPlaces.{loops_of_program}
 use Rattle.ped_rules.proofs.NameLaws.ReferencedNames.{reference_named}
 use Rattle.ped_loop_runs.proofs.LoopLaws.RacesByReferences.{read_is_referred}
-use Rattle.ped_loop_runs.specs.ped_steps.proofs.RunLaws.ExpandedNamesArrays.{no_constant, no_saved}
-use Rattle.ped_loop_runs.specs.ped_steps.proofs.RunLaws.ExpandedNamesSites.{stmts_at}
-use Rattle.ped_loop_runs.specs.ped_steps.proofs.RunLaws.ExpandedRacesOrigins.{write_there}
+use Rattle.ped_loop_runs.specs.ped_steps.proofs.RunLaws.DeclaredArrays.{no_constant, no_saved}
+use Rattle.ped_loop_runs.specs.ped_steps.proofs.RunLaws.NamesAtSites.{stmts_at}
+use Rattle.ped_loop_runs.specs.ped_steps.proofs.RunLaws.AccessTouches.{write_there}
 use Rattle.ped_loop_runs.specs.ped_steps.proofs.RunLaws.NamesKept.{occurs, occurs_append}
 use Rattle.ped_affine.specs.Assigned.{assigned_in, assigned_in_all, assigned_left}
 use Rattle.ped_loop_runs.specs.ped_flow.specs.Questions.{LoopOf}

@@ -12,8 +12,7 @@ use Rattle.ped_loop_runs.specs.Bounds.{IsOfFixed}
 use Rattle.ped_loop_runs.proofs.PastingLaws.PastedRuns.{exchanged}
 use Rattle.ped_loop_runs.specs.Executions.{IsExecuted, LeaveCopies, StandsInside}
 use Rattle.ped_loop_runs.specs.Pasting.{AreExchanged, IsExchanged}
-use Rattle.ped_loop_runs.specs.ped_steps.proofs.RunLaws.ExpandedRacesOrigins.{touch_of, write_there}
-use Rattle.ped_loop_runs.specs.ped_steps.proofs.RunLaws.PrivatisedRacesOrigins.{accesses_from}
+use Rattle.ped_loop_runs.specs.ped_steps.proofs.RunLaws.AccessTouches.{touch_of, write_there, accesses_from}
 use Rattle.ped_loop_runs.specs.ped_steps.specs.Runs.Pasting.{AreTurnsOf}
 use Rattle.ped_loop_runs.specs.ped_flow.specs.PlainBounds.{nest_round, outermost_or}
 use Rattle.ped_loop_runs.specs.ped_laws.proofs.ActLaws.Lists.{first_in, second_in}

@@ -4,8 +4,7 @@ use Rattle.std.proofs.lemmas.List.Folds.{list_any-append}
 use Rattle.ped_base.proofs.NameEquality.{same_itself}
 use Rattle.ped_base.specs.Lists.{is_among, is_same_text}
 use Rattle.ped_rules.proofs.NestLaws.OnlyBodies.{never}
-use Rattle.ped_loop_runs.specs.ped_steps.proofs.RunLaws.ExpandedRacesOrigins.{touch_of, write_there}
-use Rattle.ped_loop_runs.specs.ped_steps.proofs.RunLaws.PrivatisedRacesOrigins.{accesses_from}
+use Rattle.ped_loop_runs.specs.ped_steps.proofs.RunLaws.AccessTouches.{touch_of, write_there, accesses_from}
 use Rattle.ped_loop_runs.specs.ped_steps.proofs.RunLaws.RunPlaces.{all_each, stands_in}
 use Rattle.ped_loop_runs.specs.ped_steps.proofs.RunLaws.SparedVariables.{IsUnassigned, variables_unassigned}
 use Rattle.ped_affine.specs.Assigned.{assigned_in, assigned_in_all}

@@ -24,8 +24,7 @@ use Rattle.ped_loop_runs.specs.ped_bodies.proofs.BodyLaws.LikewiseAccesses.{like
 use Rattle.ped_loop_runs.specs.ped_bodies.specs.Likewise.{IsMadeLikewise, IsOnlyTold, NamesScalars}
 use Rattle.ped_loop_runs.specs.ped_bodies.specs.Moving.{own_number}
 use Rattle.ped_loop_runs.specs.ped_bodies.specs.Trips.{bounds_seen, loop_entry, trip_end}
-use Rattle.ped_loop_runs.specs.ped_steps.proofs.RunLaws.ExpandedRacesOrigins.{touch_of}
-use Rattle.ped_loop_runs.specs.ped_steps.proofs.RunLaws.PrivatisedRacesOrigins.{accesses_from}
+use Rattle.ped_loop_runs.specs.ped_steps.proofs.RunLaws.AccessTouches.{touch_of, accesses_from}
 use Rattle.ped_loop_runs.specs.ped_steps.specs.Replacing.{alone}
 use Rattle.ped_loop_runs.specs.ped_steps.specs.Runs.Renumbering.{renumbered_turn}
 use Rattle.ped_loop_runs.specs.ped_flow.specs.Questions.{LoopOf}

@@ -13,8 +13,8 @@ use Rattle.ped_loop_runs.specs.ped_symbols.specs.Sites.{Site, statement, private
 use Rattle.ped_loop_runs.specs.ped_symbols.proofs.RightUseLaws.Whole.{same_kinds}
 use Rattle.ped_loop_runs.specs.ped_steps.specs.Replacing.{alone, program_with}
 use Rattle.ped_loop_runs.specs.ped_steps.proofs.RunLaws.NamesKept.{occurs, occurs_append, Alike, AreAlike, alike_itself, by_sites, names_kept}
-use Rattle.ped_loop_runs.specs.ped_steps.proofs.RunLaws.PrivatisedPrograms.{scalar_occurs, statement_in}
-use Rattle.ped_loop_runs.specs.ped_steps.proofs.RunLaws.ExpandedPlacesStand.{variable_scalar}
+use Rattle.ped_loop_runs.specs.ped_steps.proofs.RunLaws.ScalarNames.{scalar_occurs, statement_in}
+use Rattle.ped_loop_runs.specs.ped_steps.proofs.RunLaws.LoopVariables.{variable_scalar}
 use Rattle.ped_rules.proofs.NestLaws.OnlyBodies.{pair, only_changed, only_tells}
 use Rattle.ped_loop_runs.proofs.LoopLaws.OneForOneNames.{constant_there}
 

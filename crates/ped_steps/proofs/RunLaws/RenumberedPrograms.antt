@@ -110,14 +110,6 @@ module _ (f g : ℕ → ℕ) (told : IsToldBack f g) where
   of_acts [] = refl
   of_acts (a ∷ acts) = (λ i. of_act a i ++ of_acts acts i) ∙ sym (map-append renumbered_access (accesses_of a) (accesses acts))
 
-  all_free : (a : Access) (xs : List Access) → AllByRecursion (λ b. race a b ≡ false) xs → AllByRecursion (λ b. race (renumbered_access a) b ≡ false) (map renumbered_access xs)
-  all_free a [] h = tt
-  all_free a (b ∷ xs) h = (race_alike a b ∙ h.0, all_free a xs h.1)
-
-  free_alike : (xs : List Access) → HasNoRace xs → HasNoRace (map renumbered_access xs)
-  free_alike [] h = tt
-  free_alike (a ∷ xs) h = (All-from_recursion (λ b. race (renumbered_access a) b ≡ false) (map renumbered_access xs) (all_free a xs (recursion_from_All (λ b. race a b ≡ false) xs h.0)), free_alike xs h.1)
-
   all_free_back : (a : Access) (xs : List Access) → AllByRecursion (λ b. race (renumbered_access a) b ≡ false) (map renumbered_access xs) → AllByRecursion (λ b. race a b ≡ false) xs
   all_free_back a [] h = tt
   all_free_back a (b ∷ xs) h = (sym (race_alike a b) ∙ h.0, all_free_back a xs h.1)
@@ -126,10 +118,7 @@ module _ (f g : ℕ → ℕ) (told : IsToldBack f g) where
   free_back [] h = tt
   free_back (a ∷ xs) h = (All-from_recursion (λ b. race a b ≡ false) xs (all_free_back a xs (recursion_from_All (λ b. race (renumbered_access a) b ≡ false) (map renumbered_access xs) h.0)), free_back xs h.1)
 
-  -- acts under new numbers have a race exactly where the old ones have
-  pub no_race_alike : (acts new : List Act) → new ≡ map (renumbered_act f) acts → HasNoRace (accesses acts) → HasNoRace (accesses new)
-  no_race_alike acts new e h = subst HasNoRace (sym (ap accesses e ∙ of_acts acts)) (free_alike (accesses acts) h)
-
+  -- where acts under new numbers have no race, the old ones have none
   pub no_race_back : (acts new : List Act) → new ≡ map (renumbered_act f) acts → HasNoRace (accesses new) → HasNoRace (accesses acts)
   no_race_back acts new e h = free_back (accesses acts) (subst HasNoRace (ap accesses e ∙ of_acts acts) h)
 

@@ -14,7 +14,7 @@ use Rattle.ped_weaves.specs.ped_graph.specs.ped_symbols.specs.declared.uses.Role
 use Rattle.ped_weaves.specs.ped_graph.specs.ped_symbols.specs.Uses.{used_as, expr_uses, cond_uses, target_uses, item_uses}
 use Rattle.ped_weaves.specs.ped_graph.specs.ped_symbols.specs.Sites.{Site, private_site, stmt_sites, stmts_sites, site_uses}
 use Rattle.ped_tree.specs.NamesIn.{loop_variables, all_loop_variables}
-use Rattle.ped_sums.specs.Substitution.{substituted, condition_substituted, item_substituted, head_substituted, statement_substituted, statements_substituted}
+use Rattle.ped_symbolic.specs.Substitution.{substituted, condition_substituted, item_substituted, head_substituted, statement_substituted, statements_substituted}
 use Rattle.ped_weaves.specs.ped_store.specs.Cells as cells
 use Rattle.ped_weaves.specs.ped_store.specs.Cells.{Cell, Private, In, Out, same_cell}
 use Rattle.ped_weaves.specs.ped_store.specs.Stores.{Content, Number, Lines, Store, put, lines_in}

@@ -10,8 +10,8 @@ use Rattle.ped_tree.specs.Constants.ConstantExpressions.{unary_value, binary_val
 use Rattle.ped_base.proofs.NameEquality.{same_is}
 use Rattle.ped_tree.specs.Tree.{ExprTree, ExprTrees, Int, Var, Element, Neg, Add, Sub, Mul, Div, Pow, Call, no_exprs, more_exprs, StmtTree, StmtTrees, Assign, If, Do, Print, Read, Stop, Comment, no_stmts, more_stmts}
 use Rattle.ped_tree.specs.Numbering.{statement_count, statements_count}
-use Rattle.ped_sums.specs.Sums.{literal_value, of_both, small, computed, literal_or, is_zero, added, subtracted, plus_of, minus_of}
-use Rattle.ped_sums.specs.Substitution.{has_scalar, have_scalar, is_scalar, changes, substituted, all_substituted, statement_substituted, statements_substituted}
+use Rattle.ped_symbolic.specs.Arithmetic.{literal_value, of_both, small, computed, literal_or, is_zero, added, subtracted, plus_of, minus_of}
+use Rattle.ped_symbolic.specs.Substitution.{has_scalar, have_scalar, is_scalar, changes, substituted, all_substituted, statement_substituted, statements_substituted}
 use Rattle.ped_tree.specs.NamesIn.{loop_variables, all_loop_variables}
 
 module _ (x : List ℕ) (by : ExprTree) where

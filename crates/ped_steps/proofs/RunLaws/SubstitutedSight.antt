@@ -15,8 +15,8 @@ use Rattle.ped_base.proofs.NameEquality.{same_is}
 use Rattle.ped_tree.specs.Tree.{ExprTree, ExprTrees, Int, Var, Element, Neg, Add, Sub, Mul, Div, Pow, Call, no_exprs, more_exprs, CondTree, Rel, Not, And, Or, ItemTree, Value, Text, Head}
 use Rattle.ped_weaves.specs.ped_graph.specs.ped_symbols.specs.declared.uses.Use.{Use}
 use Rattle.ped_weaves.specs.ped_graph.specs.ped_symbols.specs.Uses.{expr_uses, exprs_uses, cond_uses, target_uses, item_uses}
-use Rattle.ped_sums.specs.Sums.{plus_of, minus_of}
-use Rattle.ped_sums.specs.Substitution.{has_scalar, is_scalar, substituted, all_substituted, condition_substituted, item_substituted, head_substituted}
+use Rattle.ped_symbolic.specs.Arithmetic.{plus_of, minus_of}
+use Rattle.ped_symbolic.specs.Substitution.{has_scalar, is_scalar, substituted, all_substituted, condition_substituted, item_substituted, head_substituted}
 use Rattle.ped_weaves.specs.ped_store.specs.Cells as cells
 use Rattle.ped_weaves.specs.ped_store.specs.Cells.{Cell, Private, In, Out, Iteration}
 use Rattle.ped_weaves.specs.ped_store.specs.Storage.{is_within}

@@ -7,7 +7,7 @@ use Rattle.ped_base.specs.declared.arithmetic.faults.Fault.{Fault}
 use Rattle.ped_base.specs.declared.arithmetic.faults.Fault.TheVariants.{OutOfRange}
 use Rattle.ped_base.specs.Arithmetic.Arithmetic.{is_in_range, in_range, sum_of, difference_of}
 use Rattle.ped_tree.specs.Tree.{ExprTree, Int, Var, Element, Neg, Add, Sub, Mul, Div, Pow, Call}
-use Rattle.ped_sums.specs.Sums.{literal_value, literal, of_both, small, computed, literal_or, is_zero, added, subtracted, plus_of, minus_of}
+use Rattle.ped_symbolic.specs.Arithmetic.{literal_value, literal, of_both, small, computed, literal_or, is_zero, added, subtracted, plus_of, minus_of}
 use Rattle.ped_weaves.specs.ped_store.specs.Stores.{Store}
 use Rattle.ped_weaves.specs.ped_eval.specs.Scopes.{Names}
 use Rattle.ped_weaves.specs.ped_eval.specs.Evaluation.{Seen, Evaluated, given, by_number}

@@ -29,8 +29,7 @@ use Rattle.ped_weaves.specs.ped_laws.proofs.RunLaws.Turning.{At}
 use Rattle.ped_weaves.specs.ped_laws.proofs.RunLaws.Placing.{kinds_of_run}
 use Rattle.ped_weaves.specs.ped_laws.proofs.ConflictLaws.CoveringCells.{name_in}
 use Rattle.ped_steps.proofs.RunLaws.RunPlaces.{all_each}
-use Rattle.ped_steps.proofs.RunLaws.PrivatisedRacesOrigins.{accesses_from}
-use Rattle.ped_steps.proofs.RunLaws.ExpandedRacesOrigins.{IsTold, touch_of, write_there}
+use Rattle.ped_steps.proofs.RunLaws.AccessTouches.{accesses_from, IsTold, touch_of, write_there}
 use Rattle.ped_steps.proofs.RunLaws.SparedVariables.{IsUnassigned, variables_unassigned}
 use Rattle.ped_weaves.specs.ped_laws.proofs.ConflictLaws.CoveringIndices.{Near, IsIndexAt, near_front}
 use Rattle.ped_weaves.specs.ped_laws.proofs.ConflictLaws.CoveringTelling.{Tells, program_tells}

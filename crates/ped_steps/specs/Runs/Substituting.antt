@@ -1,7 +1,7 @@
 -- Statements with an element in the place of a scalar, and what they do (Allen and Kennedy, section 5.3; this project).
-use Rattle.std.specs.Prelude.{◌≡◌, ℕ, ℤ, List, [], ◌∷◌, ◌++◌, false, true, Some, None}
+use Rattle.std.specs.Prelude.{◌≡◌, ℕ, ℤ, List, [], ◌∷◌, false, true, Some, None}
 use Rattle.ped_base.specs.Lists.{is_among}
-use Rattle.ped_tree.specs.Tree.{ExprTree, Var, Element, no_exprs, more_exprs, StmtTree, StmtTrees, Assign, If, Do, Print, Read, Stop, Comment, no_stmts, more_stmts}
+use Rattle.ped_tree.specs.Tree.{ExprTree, Var, Element, no_exprs, more_exprs, StmtTrees}
 use Rattle.ped_tree.specs.Constants.NamedConstants.{value_named}
 use Rattle.ped_weaves.specs.ped_graph.specs.ped_symbols.specs.Sites.{stmts_sites}
 use Rattle.ped_weaves.specs.ped_graph.specs.ped_symbols.specs.Kinds.{names_at}

@@ -1,6 +1,6 @@
 use Rattle.std.proofs.Common.{◌≡◌, map, drop}
 use Rattle.ped_tree.specs.Views.{expr_tree, pack_exprs}
-use Rattle.ped_rules.specs.ped_sums.specs.Substitution.{have_scalar}
+use Rattle.ped_rules.specs.ped_symbolic.specs.Substitution.{have_scalar}
 use Rattle.ped_reduce.proofs.sums.+has_scalar.Given as goal
 
 abbrev pub invariant-have_scalar-loop-e : goal.invariant-have_scalar-loop-e

@@ -6,7 +6,7 @@ use Rattle.ped_tree.specs.Views.{stmt_trees, head_of}
 use Rattle.ped_tree.specs.declared.statements.Stmt.{Stmt}
 use Rattle.ped_rules.specs.ped_steps.proofs.Followed.{stmt_trees-append}
 use Rattle.ped_rules.specs.ped_steps.specs.Replacing.{followed, alone}
-use Rattle.ped_sums.specs.Sums.{literal}
+use Rattle.ped_symbolic.specs.Arithmetic.{literal}
 use Rattle.ped_reindex.specs.Peeling.{iteration_of}
 use Rattle.ped_reindex.proofs.Sizes.{literal_fits}
 use Rattle.ped_reindex.proofs.peeling.loop_last.Goals as goal

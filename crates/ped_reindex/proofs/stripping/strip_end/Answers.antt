@@ -2,7 +2,7 @@ use Rattle.std.proofs.Common.{◌≡◌, ℤ, pos, ◌-ℤ◌, to_z, of_z, ap, �
 use Rattle.std.specs.Int.{w64}
 use Rattle.std.proofs.lemmas.Int.{to_z-of_z}
 use Rattle.std.proofs.lemmas.Result.{IfOk-weaker}
-use Rattle.ped_sums.specs.Sums.{literal, plus_of}
+use Rattle.ped_symbolic.specs.Arithmetic.{literal, plus_of}
 use Rattle.ped_reindex.proofs.Sizes.{end_fits}
 use Rattle.ped_reindex.proofs.stripping.strip_end.Goals as goal
 

@@ -1,8 +1,0 @@
-use Rattle.ped_steps.proofs.RunLaws.PastedStores.{execution_entered, loop_entered}
-use Rattle.ped_steps.proofs.runs.pasting.executions_enter.Goals as goal
-
-pub returns-clause-entry : goal.returns-clause-entry
-returns-clause-entry c = execution_entered
-
-pub returns-clause-of_loop : goal.returns-clause-of_loop
-returns-clause-of_loop c = loop_entered

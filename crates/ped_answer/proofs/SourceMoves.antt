@@ -25,7 +25,7 @@ use Rattle.ped_session.specs.declared.replies.Refusal.TheVariants.{NoSuchLine, N
 use Rattle.ped_session.specs.declared.replies.Reply.{Reply}
 use Rattle.ped_session.specs.declared.replies.Reply.TheVariants.{Changed, Refused}
 use Rattle.ped_session.specs.States.{Other, State, gone_back_to, gone_forward_to}
-use Rattle.ped_session.specs.Splices.{are_lines, is_place}
+use Rattle.ped_session.specs.ped_versions.specs.Splices.{are_lines, is_place}
 use Rattle.ped_session.specs.Steps.{Refuses, Prints, Shows, ShowsOf, Edits, accepted, refused, Transforms, missing, forbidden, transformed, GoesBack, GoesForward, ShowsAnswer, IsStepOf}
 use Rattle.ped_session.specs.ped_auto.specs.Replay.{Replays}
 use Rattle.ped_session.specs.ped_transformations.specs.Table.{step_of}

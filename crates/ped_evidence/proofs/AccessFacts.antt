@@ -9,11 +9,11 @@ use Rattle.ped_views.proofs.Products.{linear}
 use Rattle.ped_tree.specs.Tree.{ExprTree, ProgramTree}
 use Rattle.ped_tree.specs.Nests.{Loop}
 use Rattle.ped_affine.specs.Ranges.{Setting, any_value}
-use Rattle.ped_graph.specs.Dependences.{setting_in}
-use Rattle.ped_eval.specs.ped_store.specs.Cells.{Cell, Scalar, same_cell}
-use Rattle.ped_eval.specs.ped_store.specs.Stores.{Store, number_read}
-use Rattle.ped_eval.specs.Scopes.{Scope, turns_of, names_in}
-use Rattle.ped_eval.specs.Outcomes.{setting_of}
+use Rattle.ped_laws.specs.ped_graph.specs.Dependences.{setting_in}
+use Rattle.ped_laws.specs.ped_store.specs.Cells.{Cell, Scalar, same_cell}
+use Rattle.ped_laws.specs.ped_store.specs.Stores.{Store, number_read}
+use Rattle.ped_laws.specs.ped_eval.specs.Scopes.{Scope, turns_of, names_in}
+use Rattle.ped_laws.specs.ped_eval.specs.Outcomes.{setting_of}
 use Rattle.ped_laws.specs.Conflicts.Making.{ComeTo, StandsFor}
 use Rattle.ped_laws.specs.Conflicts.Reaching.{IsStoreIn, Reached}
 use Rattle.ped_laws.proofs.CoveringLaws.Parts.{number_held, storable_lies}

@@ -9,13 +9,13 @@ use Rattle.ped_tree.specs.Nests.{Loop, common_nest}
 use Rattle.ped_refs.specs.References.{Reference, outermost_number, outermost}
 use Rattle.ped_affine.specs.Ranges.{Setting, nest_ranges}
 use Rattle.ped_affine.specs.PairViews.{heads_of}
-use Rattle.ped_graph.specs.Dependences.{setting_in, site_of}
-use Rattle.ped_eval.specs.ped_store.specs.Cells.{Cell, same_cell}
-use Rattle.ped_eval.specs.ped_store.specs.Stores.{Store}
-use Rattle.ped_eval.specs.ped_store.specs.Acts.{Turn}
-use Rattle.ped_eval.specs.ped_store.specs.Races.{Access}
-use Rattle.ped_eval.specs.Scopes.{Scope, turns_of, names_in}
-use Rattle.ped_eval.specs.Outcomes.{setting_of}
+use Rattle.ped_laws.specs.ped_graph.specs.Dependences.{setting_in, site_of}
+use Rattle.ped_laws.specs.ped_store.specs.Cells.{Cell, same_cell}
+use Rattle.ped_laws.specs.ped_store.specs.Stores.{Store}
+use Rattle.ped_laws.specs.ped_store.specs.Acts.{Turn}
+use Rattle.ped_laws.specs.ped_store.specs.Races.{Access}
+use Rattle.ped_laws.specs.ped_eval.specs.Scopes.{Scope, turns_of, names_in}
+use Rattle.ped_laws.specs.ped_eval.specs.Outcomes.{setting_of}
 use Rattle.ped_laws.specs.Conflicts.Making.{StandsFor, IsMade}
 use Rattle.ped_laws.specs.Conflicts.Reaching.{IsStoreIn, Reached}
 use Rattle.ped_laws.specs.Conflicts.Directions.{StandInDirections, share_a_loop}

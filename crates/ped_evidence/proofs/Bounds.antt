@@ -10,11 +10,11 @@ use Rattle.ped_views.proofs.Products.{linear}
 use Rattle.ped_tree.specs.declared.expressions.Intrinsic.TheVariants.{Mod, Abs, Max, Min}
 use Rattle.ped_tree.specs.Tree.{ExprTree, ExprTrees, Int, Var, Element, Neg, Add, Sub, Mul, Div, Pow, Call, no_exprs, more_exprs, Head}
 use Rattle.ped_tree.specs.Constants.ConstantExpressions.{intrinsic_result}
-use Rattle.ped_eval.specs.ped_store.specs.Stores.{Store, out_of_range}
-use Rattle.ped_eval.specs.Scopes.{Names}
-use Rattle.ped_eval.specs.Evaluation.{◌>>>◌, given, by_number}
-use Rattle.ped_eval.specs.Values.{of_intrinsic, value, values}
-use Rattle.ped_eval.specs.Loops.{Limits, limits, in_bounds, is_bound}
+use Rattle.ped_laws.specs.ped_store.specs.Stores.{Store, out_of_range}
+use Rattle.ped_laws.specs.ped_eval.specs.Scopes.{Names}
+use Rattle.ped_laws.specs.ped_eval.specs.Evaluation.{◌>>>◌, given, by_number}
+use Rattle.ped_laws.specs.ped_eval.specs.Values.{of_intrinsic, value, values}
+use Rattle.ped_laws.specs.ped_eval.specs.Loops.{Limits, limits, in_bounds, is_bound}
 use Rattle.ped_laws.proofs.CoveringLaws.Comings.{came, ok_one}
 use Rattle.ped_evidence.specs.Levels.{is_max, is_min, operands, operands_of_all}
 

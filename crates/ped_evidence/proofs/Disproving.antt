@@ -11,8 +11,8 @@ use Rattle.ped_certificates.specs.Rows.{Meets}
 use Rattle.ped_certificates.specs.Certificates.{refutes}
 use Rattle.ped_tree.specs.Tree.{ProgramTree}
 use Rattle.ped_refs.specs.References.{Reference, references}
-use Rattle.ped_graph.specs.ped_symbols.specs.NameRefusals.{IsValid}
-use Rattle.ped_graph.specs.ped_edges.specs.Edges.{Edge}
+use Rattle.ped_laws.specs.ped_graph.specs.ped_symbols.specs.NameRefusals.{IsValid}
+use Rattle.ped_laws.specs.ped_edges.specs.Edges.{Edge}
 use Rattle.ped_laws.proofs.ConflictLaws.CoveringRuns.{MakingLaw, SequenceLaw, makers}
 use Rattle.ped_evidence.specs.Signs.{fits}
 use Rattle.ped_evidence.specs.Claims.{reference_at, may_speak, if_spoken, system}

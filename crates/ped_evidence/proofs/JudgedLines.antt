@@ -18,9 +18,9 @@ use Rattle.ped_refs.specs.Occurrences.{reference_of, references_of}
 use Rattle.ped_refs.specs.declared.occurring.Occurrence.{Occurrence}
 use Rattle.ped_refs.specs.Sizes.Sizes.{IsSmall}
 use Rattle.ped_affine.specs.Ranges.{Setting}
-use Rattle.ped_graph.specs.ped_symbols.specs.Kinds.{table_of}
-use Rattle.ped_graph.specs.ped_edges.specs.Edges.{Edge}
-use Rattle.ped_graph.specs.Dependences.{assigned_by, setting_in}
+use Rattle.ped_laws.specs.ped_graph.specs.ped_symbols.specs.Kinds.{table_of}
+use Rattle.ped_laws.specs.ped_edges.specs.Edges.{Edge}
+use Rattle.ped_laws.specs.ped_graph.specs.Dependences.{assigned_by, setting_in}
 use Rattle.ped_evidence.specs.Signs.{says, fits}
 use Rattle.ped_evidence.specs.Evidence.{disproves, holds, speaks_of}
 use Rattle.ped_evidence.specs.Lines.{line_of, lines_of, line_holds}

@@ -12,13 +12,13 @@ use Rattle.ped_tree.specs.Nests.{Loop, indices_of}
 use Rattle.ped_affine.specs.Ranges.{Setting}
 use Rattle.ped_affine.specs.AffineForms.{AffineForm}
 use Rattle.ped_affine.specs.PairViews.{terms_of}
-use Rattle.ped_graph.specs.Dependences.{setting_in}
-use Rattle.ped_eval.specs.ped_store.specs.Cells.{Scalar}
-use Rattle.ped_eval.specs.ped_store.specs.Stores.{Store}
-use Rattle.ped_eval.specs.ped_store.specs.Acts.{Turn}
-use Rattle.ped_eval.specs.Scopes.{Scope, turns_of, names_in, cell_of, index_value}
-use Rattle.ped_eval.specs.Values.{variable_value, value}
-use Rattle.ped_eval.specs.Outcomes.{setting_of}
+use Rattle.ped_laws.specs.ped_graph.specs.Dependences.{setting_in}
+use Rattle.ped_laws.specs.ped_store.specs.Cells.{Scalar}
+use Rattle.ped_laws.specs.ped_store.specs.Stores.{Store}
+use Rattle.ped_laws.specs.ped_store.specs.Acts.{Turn}
+use Rattle.ped_laws.specs.ped_eval.specs.Scopes.{Scope, turns_of, names_in, cell_of, index_value}
+use Rattle.ped_laws.specs.ped_eval.specs.Values.{variable_value, value}
+use Rattle.ped_laws.specs.ped_eval.specs.Outcomes.{setting_of}
 use Rattle.ped_laws.specs.Covering.Weights.{first_values, HaveValues}
 use Rattle.ped_laws.specs.Covering.Together.{AreDistinct}
 use Rattle.ped_laws.specs.Conflicts.Reaching.{IsStoreIn, Reached}

@@ -16,14 +16,14 @@ use Rattle.ped_tree.specs.Nests.{Loop, indices_of}
 use Rattle.ped_tree.specs.Constants.ConstantExpressions.{constant_value}
 use Rattle.ped_affine.specs.Ranges.{Setting, Around, bound_interval, step_by, is_steady, range_between, loop_range, inside, ranges_inside, around_with}
 use Rattle.ped_affine.specs.PairViews.{heads_of}
-use Rattle.ped_graph.specs.ped_symbols.specs.RightUses.RightLoops.{is_small, is_step}
-use Rattle.ped_graph.specs.Dependences.{setting_in}
-use Rattle.ped_eval.specs.ped_store.specs.Stores.{Store}
-use Rattle.ped_eval.specs.ped_store.specs.Acts.{Turn}
-use Rattle.ped_eval.specs.Scopes.{Scope, Frame, Names, turns_of, names_in, index_value}
-use Rattle.ped_eval.specs.Values.{value}
-use Rattle.ped_eval.specs.Loops.{increment, entered_with, frame}
-use Rattle.ped_eval.specs.Outcomes.{setting_of}
+use Rattle.ped_laws.specs.ped_graph.specs.ped_symbols.specs.RightUses.RightLoops.{is_small, is_step}
+use Rattle.ped_laws.specs.ped_graph.specs.Dependences.{setting_in}
+use Rattle.ped_laws.specs.ped_store.specs.Stores.{Store}
+use Rattle.ped_laws.specs.ped_store.specs.Acts.{Turn}
+use Rattle.ped_laws.specs.ped_eval.specs.Scopes.{Scope, Frame, Names, turns_of, names_in, index_value}
+use Rattle.ped_laws.specs.ped_eval.specs.Values.{value}
+use Rattle.ped_laws.specs.ped_eval.specs.Loops.{increment, entered_with, frame}
+use Rattle.ped_laws.specs.ped_eval.specs.Outcomes.{setting_of}
 use Rattle.ped_laws.specs.Conflicts.Reaching.{IsEntered, Reached}
 use Rattle.ped_laws.proofs.CoveringLaws.Counting.{upwards, downwards}
 use Rattle.ped_laws.proofs.CoveringLaws.LoopRanges.{value_in_range}

@@ -11,7 +11,7 @@ use Rattle.ped_tree.specs.Tree.{ProgramTree}
 use Rattle.ped_tree.specs.Nests.{common_nest}
 use Rattle.ped_refs.specs.References.{Reference, references, is_pair}
 use Rattle.ped_refs.specs.TextPlaces.{place_of}
-use Rattle.ped_graph.specs.ped_edges.specs.Edges.{Edge}
+use Rattle.ped_laws.specs.ped_edges.specs.Edges.{Edge}
 use Rattle.ped_laws.specs.Acts.Orders.{IsIn}
 use Rattle.ped_evidence.specs.Signs.{fits}
 use Rattle.ped_evidence.specs.Claims.{reference_at, may_speak, if_spoken, system}

@@ -5,7 +5,7 @@ use Rattle.ped_certificates.specs.declared.systems.System.{System}
 use Rattle.ped_tree.specs.Tree.{ProgramTree}
 use Rattle.ped_tree.specs.Nests.{common_nest}
 use Rattle.ped_refs.specs.References.{Reference, references, outermost, is_pair}
-use Rattle.ped_graph.specs.Dependences.{setting_in, site_of}
+use Rattle.ped_laws.specs.ped_graph.specs.Dependences.{setting_in, site_of}
 use Rattle.ped_certificates.specs.declared.claims.Sign.{Sign}
 use Rattle.ped_evidence.specs.Systems.{system_at}
 

@@ -6,8 +6,8 @@ use Rattle.ped_certificates.specs.declared.systems.Step.{Step}
 use Rattle.ped_certificates.specs.Certificates.{refutes}
 use Rattle.ped_views.specs.declared.directions.Direction.{Direction}
 use Rattle.ped_tree.specs.Tree.{ProgramTree}
-use Rattle.ped_eval.specs.ped_store.specs.Races.{Access, conflict}
-use Rattle.ped_graph.specs.ped_edges.specs.Edges.{Edge}
+use Rattle.ped_laws.specs.ped_store.specs.Races.{Access, conflict}
+use Rattle.ped_laws.specs.ped_edges.specs.Edges.{Edge}
 use Rattle.ped_laws.specs.Conflicts.Covered.{ComeInRun}
 use Rattle.ped_laws.specs.Conflicts.Directions.{StandInDirections, share_a_loop}
 use Rattle.ped_evidence.specs.Signs.{fits}

@@ -10,8 +10,8 @@ use Rattle.ped_tree.specs.NamesIn.{all_loop_variables}
 use Rattle.ped_refs.specs.References.{Reference, references, outermost}
 use Rattle.ped_refs.specs.Occurrences.{reference_of, references_of}
 use Rattle.ped_refs.specs.declared.occurring.Occurrence.{Occurrence}
-use Rattle.ped_graph.specs.ped_symbols.specs.Kinds.{table_of}
-use Rattle.ped_graph.specs.Dependences.{setting_in, site_of}
+use Rattle.ped_laws.specs.ped_graph.specs.ped_symbols.specs.Kinds.{table_of}
+use Rattle.ped_laws.specs.ped_graph.specs.Dependences.{setting_in, site_of}
 use Rattle.ped_evidence.specs.declared.claimed.Known.{Known}
 use Rattle.ped_evidence.specs.declared.claimed.Spoken.{Spoken}
 use Rattle.ped_evidence.specs.Symbols.{symbols_of}

@@ -11,7 +11,7 @@ use Rattle.ped_certificates.specs.PairTexts.{place_text, pattern_text}
 use Rattle.ped_tree.specs.Tree.{ProgramTree}
 use Rattle.ped_tree.specs.Nests.{Loop, indices_of}
 use Rattle.ped_refs.specs.References.{Reference, outermost}
-use Rattle.ped_graph.specs.Dependences.{setting_in, site_of}
+use Rattle.ped_laws.specs.ped_graph.specs.Dependences.{setting_in, site_of}
 use Rattle.ped_evidence.specs.Layouts.{Layout, layout_of}
 use Rattle.ped_evidence.specs.Lines.{claim_about}
 use Rattle.ped_evidence.specs.Claims.{claimed, system}

@@ -9,7 +9,7 @@ ghost use Rattle.ped_tree.specs.Names.Collecting.{with_names};
 ghost use Rattle.ped_refs.specs.References as References;
 ghost use Rattle.ped_refs.specs.Occurrences.{name_text, reference_of, references_of};
 ghost use Rattle.ped_affine.specs.Arguments.{setting_of, site};
-ghost use Rattle.ped_graph.specs.Dependences.{assigned_by, site_of};
+ghost use Rattle.ped_laws.specs.ped_graph.specs.Dependences.{assigned_by, site_of};
 ghost use Rattle.ped_evidence.specs.Symbols.{symbols_of};
 ghost use Rattle.ped_evidence.specs.Systems.{system_at};
 ghost use Rattle.ped_evidence.specs.Claims as Spec;

@@ -2,8 +2,8 @@
 
 ghost use Rattle.std.specs.Prelude.{◌≡◌, ◌+◌, ◌-◌, ◌≤◌, length, IfOk};
 ghost use Rattle.ped_tree.specs.Views.{program_tree};
-ghost use Rattle.ped_graph.specs.ped_symbols.specs.Kinds.{table_of};
-ghost use Rattle.ped_graph.specs.ped_symbols.specs.NameRefusals.{IsValid};
+ghost use Rattle.ped_laws.specs.ped_graph.specs.ped_symbols.specs.Kinds.{table_of};
+ghost use Rattle.ped_laws.specs.ped_graph.specs.ped_symbols.specs.NameRefusals.{IsValid};
 ghost use Rattle.ped_evidence.specs.Claims.{system};
 ghost use Rattle.ped_evidence.specs.Judged.{pair_of, AreShallow, IsKnown};
 ghost use Rattle.ped_evidence.specs.SystemTexts as Spec;
@@ -14,7 +14,7 @@ use crate::systems::Described;
 use ped_affine::loop_variables;
 use ped_base::{Bytes, NoMemory};
 use ped_certificates::{Position, Sign};
-use ped_graph::Symbols;
+use ped_laws::Symbols;
 use ped_refs::occurrences;
 use ped_refs::sizes::small_where_it_fits;
 use ped_tree::Program;

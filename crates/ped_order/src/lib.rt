@@ -21,6 +21,6 @@ pub use agreeing::{interleavings_agree, without_choices};
 pub use laws::{no_race_where_race_free, one_report};
 pub use ped_interleavings::an_interleaving;
 pub use ped_laws::conflicts::{conflicts_are_covered, races_are_covered};
-pub use ped_laws::{Delta, Graph, Keep, flow_of, swap, update};
+pub use ped_laws::{Graph, Keep, flow_of};
 pub use reports::RaceReport;
 pub use searching::races;

@@ -3,7 +3,7 @@ use Rattle.std.proofs.Common.{◌≡◌, ◌∙◌, ℕ, ◌+◌, ◌<◌, ◌�
 use Rattle.std.proofs.lemmas.List.{take_more, drop_more, take_all, take-append-drop}
 use Rattle.ped_script.specs.declared.items.Item.{Item}
 use Rattle.ped_session.specs.declared.answers.Answered.{Answered}
-use Rattle.ped_session.specs.States.{State}
+use Rattle.ped_versions.specs.States.{State}
 use Rattle.ped_session.specs.Adding.{Adds}
 use Rattle.ped_session.specs.Scripts.{Said, said_both, nothing_said, AnswersItem, AnswersItems}
 use Rattle.ped_session.proofs.OneAnswer.{one_all}

@@ -5,7 +5,7 @@ use Rattle.ped_transformations.specs.ped_auto.specs.Editing.{IsOfStrategy}
 use Rattle.ped_transformations.specs.ped_auto.specs.Replay.{Replays}
 use Rattle.ped_script.specs.declared.items.Command.{Command}
 use Rattle.ped_session.specs.declared.replies.Reply.TheVariants.{Changed}
-use Rattle.ped_session.specs.States.{State}
+use Rattle.ped_versions.specs.States.{State}
 use Rattle.ped_session.specs.Replies.{reply_text}
 use Rattle.ped_session.specs.Scripts.{Said, said_by, said_both, AnswersItems}
 use Rattle.ped_session.specs.AutoEditing.{session_editing}

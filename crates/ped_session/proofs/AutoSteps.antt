@@ -13,7 +13,7 @@ use Rattle.ped_script.specs.declared.kinds.CommandKind.TheVariants as kind
 use Rattle.ped_script.specs.Kinds.{kind_of, step_among, step_in}
 use Rattle.ped_session.specs.declared.replies.Reply.{Reply}
 use Rattle.ped_session.specs.declared.replies.Reply.TheVariants.{Changed}
-use Rattle.ped_session.specs.States.{Other, State}
+use Rattle.ped_versions.specs.States.{Other, State}
 use Rattle.ped_session.specs.Steps.{change_by, IsStepOf, IsStep}
 use Rattle.ped_session.specs.Meanings.{ComesFrom}
 use Rattle.ped_session.specs.AutoEditing.{TransformsTo, TakesStep, session_editing}

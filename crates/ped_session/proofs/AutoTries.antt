@@ -4,7 +4,7 @@ use Rattle.std.specs.Prelude.{MatchOption}
 use Rattle.ped_tree.specs.Tree.{StmtTree, ProgramTree}
 use Rattle.ped_tree.specs.Numbering.{statement_with}
 use Rattle.ped_tree.proofs.Numbers.{statement_with-none}
-use Rattle.ped_valid.specs.Validity.{ReadsValid}
+use Rattle.ped_versions.specs.ped_valid.specs.Validity.{ReadsValid}
 use Rattle.ped_transformations.specs.ped_steps.specs.Causes.{Cause}
 use Rattle.ped_transformations.specs.ped_steps.specs.CodeCauses.{cause_of}
 use Rattle.ped_transformations.specs.ped_steps.specs.declared.causes.Refused as code
@@ -22,7 +22,7 @@ use Rattle.ped_script.specs.Kinds.{kind_of, step_among, step_in, is_rejection}
 use Rattle.ped_session.specs.declared.replies.Refusal.TheVariants.{Step}
 use Rattle.ped_session.specs.declared.replies.Reply.{Reply}
 use Rattle.ped_session.specs.declared.replies.Reply.TheVariants.{Refused}
-use Rattle.ped_session.specs.States.{State}
+use Rattle.ped_versions.specs.States.{State}
 use Rattle.ped_session.specs.Scripts.{tests_of}
 use Rattle.ped_session.specs.Steps.{Transforms, missing, forbidden, transformed, IsStepOf, IsStep}
 use Rattle.ped_session.specs.CodeStepReplies.{IsOfStep, Says}

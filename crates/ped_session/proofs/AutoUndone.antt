@@ -8,7 +8,7 @@ use Rattle.ped_script.specs.declared.items.Command.TheVariants.{Undo}
 use Rattle.ped_script.specs.declared.kinds.StepCommand.{StepCommand}
 use Rattle.ped_script.specs.Kinds.{step_in}
 use Rattle.ped_session.specs.declared.replies.Reply.TheVariants.{Changed}
-use Rattle.ped_session.specs.States.{State, gone_back_to}
+use Rattle.ped_versions.specs.States.{State, gone_back_to}
 use Rattle.ped_session.specs.Histories.{Times}
 use Rattle.ped_session.specs.AutoEditing.{TransformsTo, session_editing}
 use Rattle.ped_session.proofs.Moves.{one_more, back_from, Leaves, step_leaves}

@@ -17,8 +17,8 @@ use Rattle.ped_session.specs.declared.replies.Refusal.{Refusal}
 use Rattle.ped_session.specs.declared.replies.Refusal.TheVariants.{NoSuchLine, NoSuchPair}
 use Rattle.ped_session.specs.declared.replies.Reply.{Reply}
 use Rattle.ped_session.specs.declared.replies.Reply.TheVariants.{Changed, Shown, Refused}
-use Rattle.ped_session.specs.States.{State}
-use Rattle.ped_session.specs.Splices.{are_lines, is_place}
+use Rattle.ped_versions.specs.States.{State}
+use Rattle.ped_versions.specs.Splices.{are_lines, is_place}
 use Rattle.ped_transformations.specs.Table.{step_of}
 use Rattle.ped_transformations.specs.Advice.{IsAdvice}
 use Rattle.ped_session.specs.Steps.{Refuses, Prints, Shows, ShowsOf, ShowsAnswer, Edits, Transforms, GoesBack, GoesForward, IsStepOf}

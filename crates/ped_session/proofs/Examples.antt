@@ -9,7 +9,7 @@ use Rattle.ped_order.specs.Reports as races
 use Rattle.ped_tree.specs.declared.grammar.refusals.RefusalKind.TheVariants.{OpenBlock, StorageLimit}
 use Rattle.ped_session.specs.declared.replies.Refusal.TheVariants.{BadEdit, NothingToUndo, NothingToRedo, NoSuchStatement, NoSuchLine, NoSuchPair}
 use Rattle.ped_session.specs.declared.replies.Reply.TheVariants.{Changed, Shown, Refused}
-use Rattle.ped_session.specs.Splices.{text_of_lines, spliced, are_lines, is_place}
+use Rattle.ped_versions.specs.Splices.{text_of_lines, spliced, are_lines, is_place}
 use Rattle.ped_session.specs.OutcomeTexts.{outcome_text}
 use Rattle.ped_session.specs.RaceRows.{race_row}
 use Rattle.ped_session.specs.Replies.{reply_text, bad_command_row}

@@ -1,4 +1,4 @@
--- A program in which one DO has another flag: it is the same but for flags, and the other flag takes it back.
+-- A program in which one DO has another flag: what `parallel` makes is what versions do, and the other flag takes it back.
 use Rattle.std.proofs.Common.{◌≡◌, ℕ, ◌+◌, Bool, true, false, ◌==◌, Some, refl, sym, ap, ap₂, ◌∙◌, if◌then◌else◌}
 use Rattle.ped_tree.specs.Tree.{CondTree, Head, StmtTree, StmtTrees, Assign, If, Do, Print, Read, Stop, Comment, no_stmts, more_stmts, ProgramTree}
 use Rattle.ped_tree.specs.Numbering.{statement_count, statements_count}
@@ -6,23 +6,9 @@ use Rattle.ped_transformations.specs.ped_flow.specs.Questions.{IsLoop}
 use Rattle.ped_transformations.specs.ped_steps.specs.Replacing.{followed, alone, replaced, all_replaced}
 use Rattle.ped_transformations.specs.ped_steps.proofs.OnePlace.{one_program}
 use Rattle.ped_transformations.specs.ped_rules.specs.OnlyLoops.{on_loop}
-use Rattle.ped_transformations.specs.ped_rules.specs.Flags.{with_flag, flagged}
-use Rattle.ped_session.proofs.SerialTrees.{serial, all_serial, serial_program, serial_head}
-
--- a statement with number n in which the DO with the sought number has this flag
-abbrev mutual
-  flag_one : Bool → ℕ → StmtTree → ℕ → StmtTree
-  flag_one p sought (Assign left right) n = Assign left right
-  flag_one p sought (If c a b) n = if n == sought then If c a b else If c (flag_all p sought a (n + 1)) (flag_all p sought b (n + 1 + statements_count a))
-  flag_one p sought (Do h body) n = if n == sought then Do (record h { parallel = p }) body else Do h (flag_all p sought body (n + 1))
-  flag_one p sought (Print items) n = Print items
-  flag_one p sought (Read items) n = Read items
-  flag_one p sought Stop n = Stop
-  flag_one p sought (Comment text) n = Comment text
-
-  flag_all : Bool → ℕ → StmtTrees → ℕ → StmtTrees
-  flag_all p sought no_stmts n = no_stmts
-  flag_all p sought (more_stmts s rest) n = more_stmts (flag_one p sought s n) (flag_all p sought rest (n + statement_count s))
+use Rattle.ped_transformations.specs.ped_rules.specs.Flags.{with_flag}
+use Rattle.ped_transformations.specs.ped_rules.specs.Flags as by_step
+use Rattle.ped_versions.specs.Flags.{flag_one, flag_all, flagged}
 
 either_way : {X : Type 0} (b : Bool) (x : X) → (if b then x else x) ≡ x
 either_way true x = refl
@@ -35,10 +21,6 @@ chosen false x y zs e = e
 either_count : (b : Bool) (x y z : StmtTree) → statement_count x ≡ statement_count z → statement_count y ≡ statement_count z → statement_count (if b then x else y) ≡ statement_count z
 either_count true x y z e f = e
 either_count false x y z e f = f
-
-either_serial : (b : Bool) (x y z : StmtTree) → serial x ≡ serial z → serial y ≡ serial z → serial (if b then x else y) ≡ serial z
-either_serial true x y z e f = e
-either_serial false x y z e f = f
 
 module _ (p : Bool) (sought : ℕ) where
   mutual
@@ -70,22 +52,9 @@ module _ (p : Bool) (sought : ℕ) where
     count_all no_stmts n = refl
     count_all (more_stmts s rest) n = λ i. count_one s n i + count_all rest (n + statement_count s) i
 
-  mutual
-    serial_one : (s : StmtTree) (n : ℕ) → serial (flag_one p sought s n) ≡ serial s
-    serial_one (Assign left right) n = refl
-    serial_one (If c a b) n = either_serial (n == sought) (If c a b) (If c (flag_all p sought a (n + 1)) (flag_all p sought b (n + 1 + statements_count a))) (If c a b) refl (λ i. If c (serial_all a (n + 1) i) (serial_all b (n + 1 + statements_count a) i))
-    serial_one (Do h body) n = either_serial (n == sought) (Do (record h { parallel = p }) body) (Do h (flag_all p sought body (n + 1))) (Do h body) refl (λ i. Do (serial_head h) (serial_all body (n + 1) i))
-    serial_one (Print items) n = refl
-    serial_one (Read items) n = refl
-    serial_one Stop n = refl
-    serial_one (Comment text) n = refl
-
-    serial_all : (ss : StmtTrees) (n : ℕ) → all_serial (flag_all p sought ss n) ≡ all_serial ss
-    serial_all no_stmts n = refl
-    serial_all (more_stmts s rest) n = λ i. more_stmts (serial_one s n i) (serial_all rest (n + statement_count s) i)
-
-pub serial_flagged : (t : ProgramTree) (s : ℕ) (p : Bool) → serial_program (flagged t s p) ≡ serial_program t
-serial_flagged t s p = ap (λ (ss : StmtTrees). record { decls = t.decls; body = all_serial ss }) (all_flagged p s t.body 1) ∙ ap (λ (ss : StmtTrees). record { decls = t.decls; body = ss }) (serial_all p s t.body 1)
+-- the flag of a step is that of versions
+pub flagged_by_step : (t : ProgramTree) (s : ℕ) (p : Bool) → by_step.flagged t s p ≡ flagged t s p
+flagged_by_step t s p = ap (λ (ss : StmtTrees). record { decls = t.decls; body = ss }) (all_flagged p s t.body 1)
 
 -- the last flag counts
 module _ (p q : Bool) (sought : ℕ) where
@@ -122,11 +91,8 @@ module _ (p q : Bool) (sought : ℕ) where
         ap₂ more_stmts (last_one s n)
         (ap (λ (m : ℕ). flag_all q sought (flag_all p sought rest (n + statement_count s)) (n + m)) (count_one p sought s n) ∙ last_all rest (n + statement_count s))
 
-pub flagged_twice : (t : ProgramTree) (s : ℕ) (p q : Bool) → flagged (flagged t s p) s q ≡ flagged t s q
-flagged_twice t s p q =
-    ap (λ (ss : StmtTrees). record { decls = t.decls; body = ss })
-    (ap (λ (ss : StmtTrees). all_replaced (on_loop (with_flag q)) s ss 1) (all_flagged p s t.body 1)
-    ∙ all_flagged q s (flag_all p s t.body 1) 1 ∙ last_all p q s t.body 1 ∙ sym (all_flagged q s t.body 1))
+flagged_twice : (t : ProgramTree) (s : ℕ) (p q : Bool) → flagged (flagged t s p) s q ≡ flagged t s q
+flagged_twice t s p q = ap (λ (ss : StmtTrees). record { decls = t.decls; body = ss }) (last_all p q s t.body 1)
 
 -- statements that replace themselves
 mutual
@@ -147,10 +113,10 @@ same_statement : (a b : StmtTree) → Some a ≡ Some b → a ≡ b
 same_statement a b e = cc
 
 -- a DO that has the flag already
-pub flagged_already : (t : ProgramTree) (s : ℕ) (h : Head) (body : StmtTrees) → IsLoop t s h body → flagged t s h.parallel ≡ t
+flagged_already : (t : ProgramTree) (s : ℕ) (h : Head) (body : StmtTrees) → IsLoop t s h body → by_step.flagged t s h.parallel ≡ t
 flagged_already t s h body is =
     one_program (on_loop (with_flag h.parallel)) alone s t (λ g e. ap (on_loop (with_flag h.parallel)) (sym (same_statement (Do h body) g (sym is ∙ e))) ∙ ap alone (same_statement (Do h body) g (sym is ∙ e)))
     ∙ ap (λ (ss : StmtTrees). record { decls = t.decls; body = ss }) (all_itself s t.body 1)
 
 pub flagged_back : (t : ProgramTree) (s : ℕ) (p : Bool) (h : Head) (body : StmtTrees) → IsLoop t s h body → flagged (flagged t s p) s h.parallel ≡ t
-flagged_back t s p h body is = flagged_twice t s p h.parallel ∙ flagged_already t s h body is
+flagged_back t s p h body is = flagged_twice t s p h.parallel ∙ sym (flagged_by_step t s h.parallel) ∙ flagged_already t s h body is

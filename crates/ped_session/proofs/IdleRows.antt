@@ -1,7 +1,7 @@
 -- The rows of idle lines: where a command is answered, there is one list of them.
 use Rattle.std.proofs.Common.{◌≡◌, ℕ, ◌+◌, List, [], ◌∷◌, refl, sym, ap, ◌∙◌}
 use Rattle.ped_tree.specs.Tree.{ProgramTree}
-use Rattle.ped_valid.specs.Validity.{ReadsValid}
+use Rattle.ped_versions.specs.ped_valid.specs.Validity.{ReadsValid}
 use Rattle.ped_script.specs.ped_certificates.specs.declared.claims.EvidenceLine.{EvidenceLine}
 use Rattle.ped_script.specs.declared.items.Command.{Command}
 use Rattle.ped_script.specs.declared.kinds.CommandKind.{CommandKind}
@@ -12,7 +12,7 @@ use Rattle.ped_transformations.specs.ped_auto.specs.Editing.{IsOfStrategy}
 use Rattle.ped_transformations.specs.ped_auto.proofs.OfStrategy.{so_of_strategy}
 use Rattle.ped_transformations.specs.Table.{step_of}
 use Rattle.ped_session.specs.declared.replies.Reply.{Reply}
-use Rattle.ped_session.specs.States.{State}
+use Rattle.ped_versions.specs.States.{State}
 use Rattle.ped_session.specs.Steps.{Transforms, missing, forbidden, transformed, IsStepOf}
 use Rattle.ped_session.specs.Idle.{idle_rows, AreIdleRows, AreIdle}
 use Rattle.ped_session.proofs.OneStep.{one_tree}

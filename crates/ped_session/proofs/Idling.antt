@@ -2,7 +2,7 @@
 use Rattle.std.proofs.Common.{◌≡◌, ℕ, ◌+◌, ◌<◌, List, [], ◌∷◌, ◌++◌, append-nil, append_assoc, length, take, get_or, sym, ap, ◌∙◌, arith}
 use Rattle.std.proofs.lemmas.List.{take_more, length-take-le}
 use Rattle.ped_tree.specs.Tree.{ProgramTree}
-use Rattle.ped_valid.specs.Validity.{ReadsValid}
+use Rattle.ped_versions.specs.ped_valid.specs.Validity.{ReadsValid}
 use Rattle.ped_script.specs.ped_certificates.specs.declared.claims.EvidenceLine.{EvidenceLine}
 use Rattle.ped_session.specs.Idle.{idle_row, idle_rows, AreIdleRows}
 

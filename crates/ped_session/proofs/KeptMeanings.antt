@@ -1,12 +1,12 @@
 -- Transformations keep the meaning of a session's programs.
-use Rattle.std.proofs.Common.{◌≡◌, inl, inr, ℕ, List, [], ◌∷◌, map, append-nil, Option, Some, None, refl, sym, ap, ◌∙◌, subst}
+use Rattle.std.proofs.Common.{◌≡◌, inl, inr, ℕ, List, [], ◌∷◌, append-nil, Option, Some, None, refl, sym, ap, ◌∙◌, subst}
 use Rattle.std.specs.List.{range_with_len}
 use Rattle.ped_tree.specs.Tree.{ProgramTree}
 use Rattle.ped_tree.specs.Numbering.{statements_count}
 use Rattle.ped_tree.specs.Printing.{program_text}
 use Rattle.ped_transformations.specs.ped_symbols.specs.NameRefusals.{IsValid}
-use Rattle.ped_valid.specs.Validity.{ReadsValid}
-use Rattle.ped_valid.proofs.OneVerdict.{valid_prints}
+use Rattle.ped_versions.specs.ped_valid.specs.Validity.{ReadsValid}
+use Rattle.ped_versions.specs.ped_valid.proofs.OneVerdict.{valid_prints}
 use Rattle.ped_eval.specs.Runs.{Ending, going, stopped, failed}
 use Rattle.ped_eval.specs.Outcomes.{Outcome, run_of, outcome_of, outcome, Ends, IsRaceFree}
 use Rattle.ped_order.specs.ped_interleavings.specs.Interleavings.{IsInterleaved}
@@ -23,14 +23,10 @@ use Rattle.ped_script.specs.declared.kinds.CommandKind.{CommandKind}
 use Rattle.ped_script.specs.Kinds.{kind_of}
 use Rattle.ped_script.specs.declared.items.Command.TheVariants.{Run}
 use Rattle.ped_script.specs.declared.items.Item.{Item}
-use Rattle.ped_transformations.specs.ped_graph.specs.Held.{Held}
-use Rattle.ped_session.specs.declared.versions.Version.{Version}
-use Rattle.ped_session.specs.declared.versions.Entry.{Entry}
-use Rattle.ped_session.specs.Holding.{other_of, IsConsistent}
-use Rattle.ped_session.specs.declared.changes.ChangeKind.{ChangeKind}
+use Rattle.ped_versions.specs.declared.changes.ChangeKind.{ChangeKind}
 use Rattle.ped_session.specs.declared.replies.Reply.{Reply}
 use Rattle.ped_session.specs.declared.replies.Reply.TheVariants.{Changed}
-use Rattle.ped_session.specs.States.{Other, State, opened}
+use Rattle.ped_versions.specs.States.{Other, State, opened, changed_to}
 use Rattle.ped_session.specs.OutcomeTexts.{outcome_text, IsRunText}
 use Rattle.ped_session.specs.LoweredRuns.{HasNoLiveList, told_by, IsLoweredRun}
 use Rattle.ped_transformations.specs.ped_rules.specs.Steps.{StepKind, transformation, rejection}
@@ -163,11 +159,11 @@ step_keeps all command s next reply k (transformed t new keep reads some none ma
     subst IsMeaningKept (sym after)
     (record { past = (kept_by_step all command s.present t new keep reads reads.valid valid none makes, k.past); future = tt })
 
-back_keeps : (past : List Other) (s next : State) (reply : Reply) → IsMeaningKept s → IsPastKept s.present past → GoesBack past s reply next → IsMeaningKept next
+pub back_keeps : (past : List Other) (s next : State) (reply : Reply) → IsMeaningKept s → IsPastKept s.present past → GoesBack past s reply next → IsMeaningKept next
 back_keeps [] s next reply k kept h = same s next k h.1
 back_keeps (other ∷ past) s next reply k kept h = subst IsMeaningKept (sym h.1) (record { past = kept.1; future = (kept.0, k.future) })
 
-forward_keeps : (future : List Other) (s next : State) (reply : Reply) → IsMeaningKept s → IsFutureKept s.present future → GoesForward future s reply next → IsMeaningKept next
+pub forward_keeps : (future : List Other) (s next : State) (reply : Reply) → IsMeaningKept s → IsFutureKept s.present future → GoesForward future s reply next → IsMeaningKept next
 forward_keeps [] s next reply k kept h = same s next k h.1
 forward_keeps (other ∷ future) s next reply k kept h = subst IsMeaningKept (sym h.1) (record { past = (kept.0, k.past); future = kept.1 })
 
@@ -177,6 +173,10 @@ keeps_by all what s next reply k (by_edit kept gone text h) = edit_keeps kept go
 keeps_by all what s next reply k (by_step command h) = step_keeps all command s next reply k h
 keeps_by all what s next reply k (by_undo is h) = back_keeps s.past s next reply k k.past h
 keeps_by all what s next reply k (by_redo is h) = forward_keeps s.future s next reply k k.future h
+
+-- and so does a change of a kind that keeps what it has to
+pub change_keeps : (kind : ChangeKind) (text : List ℕ) (tested : ℕ) (s next : State) → IsMeaningKept s → IsKept kind s.present text → next ≡ changed_to text kind tested s → IsMeaningKept next
+change_keeps kind text tested s next k kept after = subst IsMeaningKept (sym after) (record { past = (kept, k.past); future = tt })
 
 -- a command keeps it
 pub command_keeps : AllLawful → (c : Command) (d : List ℕ) (s next : State) (reply : Reply) → IsMeaningKept s → IsStep c d s reply next → IsMeaningKept next
@@ -227,9 +227,3 @@ items_as_before agree lower all (item ∷ items) d s last said k h = (
   items_as_before agree lower all items d h.1 last h.3 (line_keeps all item.line item.command d s h.1 h.0 k h.2) h.4,
   h.5,
 )
-
-module _ {L : _} where
-  -- what a session holds
-  pub kept_in : (present : Version) (graph : Held) (past future : List (Entry L)) → IsConsistent present graph past future
-      → (s : State) (tested : ℕ) → record { past = map other_of past; present = present.text; future = map other_of future; tested = tested } ≡ s → IsMeaningKept s
-  kept_in present graph past future is s tested same = subst IsMeaningKept same (record { past = is.past_kept; future = is.future_kept })

@@ -4,12 +4,12 @@ use Rattle.ped_script.specs.declared.items.Command.{Command}
 use Rattle.ped_script.specs.declared.kinds.CommandKind.{CommandKind}
 use Rattle.ped_script.specs.Kinds.{kind_of, IsMove}
 use Rattle.ped_script.specs.declared.items.Command.TheVariants.{Undo, Redo}
-use Rattle.ped_session.specs.declared.changes.ChangeKind.{ChangeKind}
-use Rattle.ped_session.specs.declared.changes.ChangeKind.TheVariants.{Edit}
+use Rattle.ped_versions.specs.declared.changes.ChangeKind.{ChangeKind}
+use Rattle.ped_versions.specs.declared.changes.ChangeKind.TheVariants.{Edit}
 use Rattle.ped_session.specs.declared.replies.Refusal.{Refusal}
 use Rattle.ped_session.specs.declared.replies.Reply.{Reply}
 use Rattle.ped_session.specs.declared.replies.Reply.TheVariants.{Changed, Refused}
-use Rattle.ped_session.specs.States.{Other, State, gone_back_to, gone_forward_to}
+use Rattle.ped_versions.specs.States.{Other, State, gone_back_to, gone_forward_to}
 use Rattle.ped_transformations.specs.ped_rules.specs.Steps.{StepAt}
 use Rattle.ped_transformations.specs.Table.{step_of}
 use Rattle.ped_session.specs.Steps.{Edits, accepted, refused, change_by, Transforms, missing, forbidden, transformed, GoesBack, GoesForward, IsStep}

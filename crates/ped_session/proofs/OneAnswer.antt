@@ -6,7 +6,7 @@ use Rattle.ped_script.specs.declared.items.Command.TheVariants.{Auto}
 use Rattle.ped_script.specs.declared.items.Item.{Item}
 use Rattle.ped_script.specs.Kinds.{kind_of}
 use Rattle.ped_session.specs.declared.replies.Reply.{Reply}
-use Rattle.ped_session.specs.States.{State}
+use Rattle.ped_versions.specs.States.{State}
 use Rattle.ped_session.specs.Steps.{IsStep}
 use Rattle.ped_session.specs.AutoEditing.{session_editing}
 use Rattle.ped_session.specs.AutoEditingLaws.{session_laws}

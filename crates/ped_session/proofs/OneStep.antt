@@ -8,11 +8,11 @@ use Rattle.ped_tree.specs.Numbering.{statement_with}
 use Rattle.ped_tree.specs.Grammar.Refusal.{Finding}
 use Rattle.ped_tree.specs.Grammar.RefusalViews.{finding_of}
 use Rattle.ped_tree.specs.declared.grammar.refusals.Refusal as text
-use Rattle.ped_valid.specs.Validity.{ReadsValid, RefusesText}
-use Rattle.ped_valid.proofs.OneVerdict.{one_of_both}
+use Rattle.ped_versions.specs.ped_valid.specs.Validity.{ReadsValid, RefusesText}
+use Rattle.ped_versions.specs.ped_valid.proofs.OneVerdict.{one_of_both}
 use Rattle.ped_transformations.specs.ped_graph.specs.DependencePane.{IsDependencePane, IsDependencePaneOf}
 use Rattle.ped_transformations.specs.ped_graph.proofs.OnePane.{one_pane, one_pane_of}
-use Rattle.ped_transformations.specs.ped_graph.specs.Update.Fresh.{tested_pairs}
+use Rattle.ped_versions.specs.ped_update.specs.Fresh.{tested_pairs}
 use Rattle.ped_script.specs.ped_certificates.specs.declared.claims.Position.{Position}
 use Rattle.ped_script.specs.ped_certificates.specs.declared.claims.Sign.{Sign}
 use Rattle.ped_transformations.specs.ped_evidence.specs.SystemTexts.{system_text}
@@ -28,16 +28,16 @@ use Rattle.ped_script.specs.declared.kinds.ProgramRun.TheVariants.{Run, Races}
 use Rattle.ped_script.specs.declared.kinds.CommandKind.{CommandKind}
 use Rattle.ped_script.specs.declared.kinds.CommandKind.TheVariants as kind
 use Rattle.ped_script.specs.Kinds.{kind_of}
-use Rattle.ped_session.specs.declared.changes.ChangeKind.TheVariants.{Edit}
+use Rattle.ped_versions.specs.declared.changes.ChangeKind.TheVariants.{Edit}
 use Rattle.ped_session.specs.declared.replies.Refusal.{Refusal}
 use Rattle.ped_session.specs.declared.replies.Refusal.TheVariants.{BadEdit, Step, NothingToUndo, NothingToRedo, NoSuchStatement, NoSuchLine, NoSuchPair}
 use Rattle.ped_session.specs.declared.replies.Reply.{Reply}
 use Rattle.ped_session.specs.declared.replies.Reply.TheVariants.{Shown, Refused}
-use Rattle.ped_session.specs.States.{Other, State, changed_to}
+use Rattle.ped_versions.specs.States.{Other, State, changed_to}
 use Rattle.ped_session.specs.OutcomeTexts.{outcome_text, IsRunText}
 use Rattle.ped_session.specs.RaceRows.{race_row, IsRaceRow}
 use Rattle.ped_session.specs.Panes.{IsSourcePane, ArePanes}
-use Rattle.ped_session.specs.Splices.{are_lines, is_place, edit_keep}
+use Rattle.ped_versions.specs.Splices.{are_lines, is_place, edit_keep}
 use Rattle.ped_session.specs.Steps.{Refuses, Prints, Shows, ShowsOf, ShowsStatement, ShowsSystem, Edits, accepted, refused, change_by, Transforms, missing, forbidden, transformed, GoesBack, GoesForward, ShowsAnswer, IsStepOf, IsStep}
 use Rattle.ped_transformations.specs.ped_rules.specs.Steps.{StepAt}
 use Rattle.ped_transformations.specs.ped_rules.specs.Lawful.{IsDetermined}

@@ -3,14 +3,14 @@ use Rattle.std.proofs.Common.{◌≡◌, ℕ, List, [], ap, ◌∙◌}
 use Rattle.std.specs.List.{range_with_len}
 use Rattle.ped_tree.specs.Tree.{ProgramTree}
 use Rattle.ped_tree.specs.Numbering.{statements_count}
-use Rattle.ped_valid.specs.Validity.{ReadsValid}
+use Rattle.ped_versions.specs.ped_valid.specs.Validity.{ReadsValid}
 use Rattle.ped_eval.specs.Outcomes.{Outcome, outcome}
 use Rattle.ped_order.specs.ped_interleavings.specs.Interleavings.{IsInterleaved}
 use Rattle.ped_transformations.specs.ped_reduce.specs.Lowering.{not_lowered}
 use Rattle.ped_transformations.specs.ped_reduce.specs.Reducing.{IsLowered}
 use Rattle.ped_transformations.specs.ped_reduce.proofs.LoweringLaws.{stays_itself}
 use Rattle.ped_session.specs.declared.replies.Reply.{Reply}
-use Rattle.ped_session.specs.States.{State}
+use Rattle.ped_versions.specs.States.{State}
 use Rattle.ped_session.specs.OutcomeTexts.{outcome_text, IsRunText}
 use Rattle.ped_session.specs.LoweredRuns.{HasNoList, told_by, IsLoweredRun, IsLoweredInOrder}
 use Rattle.ped_session.specs.Steps.{Shows}

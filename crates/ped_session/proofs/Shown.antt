@@ -3,6 +3,7 @@ use Rattle.std.proofs.Common.{◌≡◌, ℕ, List, refl, ap, true, false, Optio
 use Rattle.std.specs.Prelude.{MatchOption}
 use Rattle.ped_tree.specs.Tree.{StmtTree, ProgramTree}
 use Rattle.ped_tree.specs.Numbering.{statement_with}
+use Rattle.ped_versions.specs.ped_valid.specs.Validity.{ReadsValid}
 use Rattle.ped_transformations.specs.ped_graph.specs.DependencePane.{IsDependencePaneOf}
 use Rattle.ped_script.specs.ped_certificates.specs.declared.claims.Position.{Position}
 use Rattle.ped_script.specs.ped_certificates.specs.declared.claims.Sign.{Sign}
@@ -10,20 +11,16 @@ use Rattle.ped_transformations.specs.ped_evidence.specs.SystemTexts.{system_text
 use Rattle.ped_transformations.specs.Advice.{IsAdvice}
 use Rattle.ped_script.specs.declared.kinds.Query.{Query}
 use Rattle.ped_script.specs.declared.kinds.Query.TheVariants.{Source, Deps, Show, Calls, Print, Advise, System, Tested}
-use Rattle.ped_session.specs.declared.versions.Version.{Version}
 use Rattle.ped_session.specs.declared.replies.Refusal.TheVariants.{NoSuchStatement, NoSuchPair}
 use Rattle.ped_session.specs.declared.replies.Reply.{Reply}
 use Rattle.ped_session.specs.declared.replies.Reply.TheVariants.{Shown, Refused}
-use Rattle.ped_session.specs.States.{State}
+use Rattle.ped_versions.specs.States.{State}
 use Rattle.ped_session.specs.Steps.{Refuses, Prints, Shows, ShowsOf, ShowsStatement, ShowsSystem, ShowsAnswer}
 use Rattle.ped_session.specs.Scripts.{tests_of}
-use Rattle.ped_session.specs.Holding.{tree_of, IsVersion}
-use Rattle.ped_session.proofs.PresentProgram.{reads_version}
 
--- what is so of the program of a version
-pub shown : (IsSo : ProgramTree → List ℕ → Type 0) (v : Version) (s : State) (bytes : List ℕ)
-    → IsVersion v → v.text ≡ s.present → IsSo (tree_of v) bytes → Shows IsSo s (Shown bytes) s
-shown IsSo v s bytes is same so = record { tree = tree_of v; reads = reads_version v is s.present same; bytes = bytes; so = so; prints = (refl, refl) }
+-- what is so of the present program
+pub shown : (IsSo : ProgramTree → List ℕ → Type 0) (t : ProgramTree) (s : State) (bytes : List ℕ) → ReadsValid s.present t → IsSo t bytes → Shows IsSo s (Shown bytes) s
+shown IsSo t s bytes reads so = record { tree = t; reads = reads; bytes = bytes; so = so; prints = (refl, refl) }
 
 module _ (IsSo : ProgramTree → List ℕ → Type 0) where
   refused_by : (o : Option StmtTree) (s : State) → is_some o ≡ false → ShowsOf IsSo o s (Refused NoSuchStatement) s
@@ -34,22 +31,18 @@ module _ (IsSo : ProgramTree → List ℕ → Type 0) where
   shown_by None s bytes h shows = absurd cc
   shown_by (Some x) s bytes h shows = shows
 
-  -- a statement that the program of a version hasn't
-  pub refused_statement : (v : Version) (s : State) (number : ℕ)
-      → IsVersion v → v.text ≡ s.present → is_some (statement_with number (tree_of v)) ≡ false → ShowsStatement IsSo number s (Refused NoSuchStatement) s
-  refused_statement v s number is same none =
-      record { tree = tree_of v; reads = reads_version v is s.present same; shows = refused_by (statement_with number (tree_of v)) s none }
+  -- a statement that the present program hasn't
+  pub refused_statement : (t : ProgramTree) (s : State) (number : ℕ)
+      → ReadsValid s.present t → is_some (statement_with number t) ≡ false → ShowsStatement IsSo number s (Refused NoSuchStatement) s
+  refused_statement t s number reads none = record { tree = t; reads = reads; shows = refused_by (statement_with number t) s none }
 
   -- a statement that it has
-  pub shown_statement : (v : Version) (s : State) (number : ℕ) (bytes : List ℕ)
-      → IsVersion v → v.text ≡ s.present → is_some (statement_with number (tree_of v)) ≡ true → IsSo (tree_of v) bytes → ShowsStatement IsSo number s (Shown bytes) s
-  shown_statement v s number bytes is same some so = record {
-    tree = tree_of v;
-    reads = reads_version v is s.present same;
-    shows = shown_by (statement_with number (tree_of v)) s bytes some (shown IsSo v s bytes is same so);
-  }
+  pub shown_statement : (t : ProgramTree) (s : State) (number : ℕ) (bytes : List ℕ)
+      → ReadsValid s.present t → is_some (statement_with number t) ≡ true → IsSo t bytes → ShowsStatement IsSo number s (Shown bytes) s
+  shown_statement t s number bytes reads some so =
+      record { tree = t; reads = reads; shows = shown_by (statement_with number t) s bytes some (shown IsSo t s bytes reads so) }
 
--- the system of a pair of the program of a version, where it is one
+-- the system of a pair of the present program, where it is one
 printed_by : (o : Option (List ℕ)) (s : State) (bytes : List ℕ) → o ≡ Some bytes → MatchOption o (Refuses NoSuchPair s (Shown bytes) s) (λ text. Prints text s (Shown bytes) s)
 printed_by None s bytes e = absurd cc
 printed_by (Some text) s bytes e = let found : bytes ≡ text = cc in (ap Shown found, refl)
@@ -58,12 +51,12 @@ none_by : (o : Option (List ℕ)) (s : State) → o ≡ None → MatchOption o (
 none_by None s e = (refl, refl)
 none_by (Some text) s e = absurd cc
 
-module _ (v : Version) (s : State) (is : IsVersion v) (same : v.text ≡ s.present) (source sink : Position) (pattern : List Sign) where
-  pub shown_system : (bytes : List ℕ) → system_text (tree_of v) source sink pattern ≡ Some bytes → ShowsSystem source sink pattern s (Shown bytes) s
-  shown_system bytes e = record { tree = tree_of v; reads = reads_version v is s.present same; shows = printed_by (system_text (tree_of v) source sink pattern) s bytes e }
+module _ (t : ProgramTree) (s : State) (reads : ReadsValid s.present t) (source sink : Position) (pattern : List Sign) where
+  pub shown_system : (bytes : List ℕ) → system_text t source sink pattern ≡ Some bytes → ShowsSystem source sink pattern s (Shown bytes) s
+  shown_system bytes e = record { tree = t; reads = reads; shows = printed_by (system_text t source sink pattern) s bytes e }
 
-  pub refused_system : system_text (tree_of v) source sink pattern ≡ None → ShowsSystem source sink pattern s (Refused NoSuchPair) s
-  refused_system e = record { tree = tree_of v; reads = reads_version v is s.present same; shows = none_by (system_text (tree_of v) source sink pattern) s e }
+  pub refused_system : system_text t source sink pattern ≡ None → ShowsSystem source sink pattern s (Refused NoSuchPair) s
+  refused_system e = record { tree = t; reads = reads; shows = none_by (system_text t source sink pattern) s e }
 
 -- showing tests nothing
 untested_shows : (IsSo : ProgramTree → List ℕ → Type 0) (s next : State) (reply : Reply) (last : State) → Shows IsSo s reply next → tests_of reply last ≡ 0

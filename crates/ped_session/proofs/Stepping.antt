@@ -6,8 +6,8 @@ use Rattle.ped_tree.specs.Printing.{program_text}
 use Rattle.ped_tree.specs.Numbering.{statement_with}
 use Rattle.ped_transformations.specs.ped_symbols.specs.Kinds.{table_of}
 use Rattle.ped_transformations.specs.ped_symbols.specs.NameRefusals.{IsValid}
-use Rattle.ped_valid.specs.Validity.{ReadsValid}
-use Rattle.ped_transformations.specs.ped_graph.specs.Update.Fresh.{tested_pairs}
+use Rattle.ped_versions.specs.ped_valid.specs.Validity.{ReadsValid}
+use Rattle.ped_versions.specs.ped_update.specs.Fresh.{tested_pairs}
 use Rattle.ped_transformations.specs.ped_steps.specs.declared.causes.Refused.{Refused}
 use Rattle.ped_transformations.specs.ped_steps.specs.declared.changes.Change as step
 use Rattle.ped_transformations.specs.ped_steps.specs.CodeCauses.{cause_of}
@@ -15,9 +15,7 @@ use Rattle.ped_transformations.specs.ped_steps.specs.Changes.{IsChange}
 use Rattle.ped_session.specs.declared.replies.Refusal.TheVariants.{NoSuchStatement}
 use Rattle.ped_session.specs.declared.replies.Reply.{Reply}
 use Rattle.ped_session.specs.declared.replies.Reply.TheVariants as reply
-use Rattle.ped_session.specs.declared.versions.Version.{Version}
-use Rattle.ped_session.specs.States.{State, changed_to}
-use Rattle.ped_session.specs.Holding.{tree_of, IsVersion}
+use Rattle.ped_versions.specs.States.{State, changed_to}
 use Rattle.ped_transformations.specs.ped_rules.specs.Steps.{StepAt, Answers}
 use Rattle.ped_transformations.specs.ped_rules.specs.Lawful.{IsLawful}
 use Rattle.ped_transformations.specs.Table.{step_of}
@@ -26,7 +24,6 @@ use Rattle.ped_script.specs.declared.kinds.StepCommand.{StepCommand}
 use Rattle.ped_session.specs.Steps.{change_by, Transforms, missing, forbidden, transformed}
 use Rattle.ped_session.specs.Changing.{IsStepAnswer, IsTakeable, Takes, most_tests}
 use Rattle.ped_session.specs.Scripts.{tests_of}
-use Rattle.ped_session.proofs.PresentProgram.{reads_version, only_version}
 use Rattle.ped_session.proofs.OneStep.{one_tree, none_and_some, no_cause}
 use Rattle.ped_session.proofs.KeptMeanings.{kept_by_step}
 
@@ -34,36 +31,34 @@ made : (at : StepAt) (t new : ProgramTree) (keep : List (ℕ × ℕ)) (change : 
 made at t new keep change makes is =
     subst (λ (u : ProgramTree). at.Makes t u change.keep) (sym is.tree) (subst (λ (k : List (ℕ × ℕ)). at.Makes t new k) (sym is.kept) makes)
 
--- what a step answers for the program of a version
-pub answered : (at : StepAt) (v : Version) (s : State) → IsVersion v → v.text ≡ s.present → (answer : Result step.Change Refused) → Answers at (tree_of v) answer → IsStepAnswer at s answer
-answered at v s is text (Ok change) h =
-    (tree_of v, reads_version v is s.present text, h.0, made at (tree_of v) h.1 h.2 change h.3 h.4, subst IsValid (sym h.4.tree) h.4.valid)
-answered at v s is text (Err why) h = (tree_of v, reads_version v is s.present text, h.0)
+-- what a step answers for the present program
+pub answered : (at : StepAt) (t : ProgramTree) (s : State) → ReadsValid s.present t → (answer : Result step.Change Refused) → Answers at t answer → IsStepAnswer at s answer
+answered at t s reads (Ok change) h = (t, reads, h.0, made at t h.1 h.2 change h.3 h.4, subst IsValid (sym h.4.tree) h.4.valid)
+answered at t s reads (Err why) h = (t, reads, h.0)
 
 -- it can be taken
-pub takeable : AllLawful → (command : StepCommand) (v : Version) (s : State) → IsVersion v → v.text ≡ s.present → (answer : Result step.Change Refused) → Answers (step_of command) (tree_of v) answer
+pub takeable : AllLawful → (command : StepCommand) (t : ProgramTree) (s : State) → ReadsValid s.present t → (answer : Result step.Change Refused) → Answers (step_of command) t answer
     → IsTakeable (change_by (step_of command).kind) s answer
-takeable all command v s is text (Ok change) h =
-    let t = tree_of v in
+takeable all command t s reads (Ok change) h =
     let new = program_tree change.tree in
     let makes = made (step_of command) t h.1 h.2 change h.3 h.4 in
     let valid : IsValid new = subst IsValid (sym h.4.tree) h.4.valid in (
       valid,
       h.4.symbols ∙ ap table_of (sym h.4.tree),
       (all command).one_to_one t new change.keep makes,
-      kept_by_step all command s.present t new change.keep (reads_version v is s.present text) is.valid valid h.0 makes,
+      kept_by_step all command s.present t new change.keep reads reads.valid valid h.0 makes,
     )
-takeable all command v s is text (Err why) h = h.1
+takeable all command t s reads (Err why) h = h.1
 
--- the program of a version has no such statement
-pub is_missing : (at : StepAt) (v : Version) (s : State) → IsVersion v → v.text ≡ s.present → is_some (statement_with at.statement (tree_of v)) ≡ false
+-- the present program has no such statement
+pub is_missing : (at : StepAt) (t : ProgramTree) (s : State) → ReadsValid s.present t → is_some (statement_with at.statement t) ≡ false
     → Transforms at s (reply.Refused NoSuchStatement) s
-is_missing at v s is text none = missing (tree_of v) (reads_version v is s.present text) none (refl, refl)
+is_missing at t s reads none = missing t reads none (refl, refl)
 
 -- or it has
-pub is_there : (number : ℕ) (v : Version) (s : State) → IsVersion v → v.text ≡ s.present → is_some (statement_with number (tree_of v)) ≡ true
+pub is_there : (number : ℕ) (u : ProgramTree) (s : State) → ReadsValid s.present u → is_some (statement_with number u) ≡ true
     → (t : ProgramTree) → ReadsValid s.present t → is_some (statement_with number t) ≡ true
-is_there number v s is text some t reads = subst (λ (u : ProgramTree). is_some (statement_with number u) ≡ true) (sym (only_version v is s.present text t reads)) some
+is_there number u s from some t reads = subst (λ (v : ProgramTree). is_some (statement_with number v) ≡ true) (one_tree s.present u t from reads) some
 
 -- what a step answers is taken
 pub takes : (at : StepAt) (s next : State) (r : Reply) (answer : Result step.Change Refused)

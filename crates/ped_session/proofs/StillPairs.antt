@@ -11,8 +11,9 @@ use Rattle.ped_transformations.specs.ped_rules.specs.ped_views.specs.SameViews.{
 use Rattle.ped_transformations.specs.ped_rules.specs.ped_views.proofs.SameViews.{same_view_decides}
 use Rattle.ped_transformations.specs.ped_graph.specs.Dependences.{facts_of, view_of}
 use Rattle.ped_transformations.specs.ped_graph.specs.Held.{Pair, Held, framed, pairs_by, held_of, held_pairs}
-use Rattle.ped_transformations.specs.ped_graph.specs.Update.Fresh.{keeps, keeps_place, comes_from, is_fresh, fresh_pairs, tested_pairs}
+use Rattle.ped_versions.specs.ped_update.specs.Fresh.{keeps, keeps_place, comes_from, is_fresh, fresh_pairs, tested_pairs}
 use Rattle.ped_transformations.specs.ped_steps.specs.Replacing.{all_kept}
+use Rattle.ped_versions.specs.Flags.{flagged}
 
 above : (from m : ℕ) → from ≤ m → (from == m) ≡ false → from + 1 ≤ m
 above from m low other = grind (arith, low, other, eqb-true)
@@ -95,5 +96,9 @@ module _ (t : ProgramTree) where
       (sum_by-zero (λ (p : Pair). cond (is_fresh (held_of t) keep p) 1 0) (held_pairs (held_of t))
       ∙ none_new [] (held_pairs (held_of t)) (from_itself (pairs (references t)) (pairs_inside (references t) (references t) all all)))
 
-  pub nothing_tested : (new : ProgramTree) → held_of new ≡ held_of t → tested_pairs t new keep ≡ 0
+  nothing_tested : (new : ProgramTree) → held_of new ≡ held_of t → tested_pairs t new keep ≡ 0
   nothing_tested new same = ap (λ (h : Held). fresh_pairs (held_of t) keep h) same ∙ none_fresh
+
+-- so nothing is tested after a flag
+pub flag_tests : (t new : ProgramTree) (s : ℕ) (p : Bool) (keep : List (ℕ × ℕ)) → held_of (flagged t s p) ≡ held_of t → new ≡ flagged t s p → keep ≡ all_kept t → 0 ≡ tested_pairs t new keep
+flag_tests t new s p keep same there all = sym (ap (tested_pairs t new) all ∙ nothing_tested t new (ap held_of there ∙ same))

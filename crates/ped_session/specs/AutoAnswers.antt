@@ -8,7 +8,7 @@ use Rattle.ped_transformations.specs.ped_auto.specs.Strategy.{Report, IsAuto}
 use Rattle.ped_script.specs.declared.items.Command.{Command}
 use Rattle.ped_script.specs.CommandTexts.{command_text}
 use Rattle.ped_session.specs.declared.replies.Reply.TheVariants.{Changed}
-use Rattle.ped_session.specs.States.{State}
+use Rattle.ped_versions.specs.States.{State}
 use Rattle.ped_session.specs.Replies.{answer_row}
 use Rattle.ped_session.specs.Steps.{IsStep}
 use Rattle.ped_session.specs.AutoEditing.{session_editing}

@@ -1,6 +1,6 @@
 -- A session as the editor of `auto`: its present program, the commands that it accepts, and those that it refuses (ParaScope; this project).
 use Rattle.std.specs.Prelude.{◌≡◌, MatchOption}
-use Rattle.ped_valid.specs.Validity.{ReadsValid}
+use Rattle.ped_versions.specs.ped_valid.specs.Validity.{ReadsValid}
 use Rattle.ped_transformations.specs.ped_rules.specs.Steps.{transformation}
 use Rattle.ped_transformations.specs.ped_auto.specs.Editing.{Editing}
 use Rattle.ped_transformations.specs.Table.{step_of}
@@ -10,7 +10,7 @@ use Rattle.ped_script.specs.Kinds.{step_in}
 use Rattle.ped_session.specs.declared.replies.Refusal.TheVariants.{Step}
 use Rattle.ped_session.specs.declared.replies.Reply.{Reply}
 use Rattle.ped_session.specs.declared.replies.Reply.TheVariants.{Changed, Refused}
-use Rattle.ped_session.specs.States.{State}
+use Rattle.ped_versions.specs.States.{State}
 use Rattle.ped_session.specs.Steps.{Transforms}
 
 -- the step of the command is a transformation, and leads with this reply to this state (ParaScope)

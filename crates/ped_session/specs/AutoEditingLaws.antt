@@ -6,9 +6,9 @@ use Rattle.ped_tree.specs.Numbering.{statement_with}
 use Rattle.ped_tree.specs.Printing.{program_text}
 use Rattle.ped_transformations.specs.ped_symbols.specs.NameRefusals.{IsValid}
 use Rattle.ped_transformations.specs.ped_symbols.proofs.RightUseLaws.Whole.{right_program}
-use Rattle.ped_valid.specs.Validity.{ReadsValid}
-use Rattle.ped_valid.proofs.OneVerdict.{one_of_both, valid_prints}
-use Rattle.ped_transformations.specs.ped_graph.specs.Update.Fresh.{tested_pairs}
+use Rattle.ped_versions.specs.ped_valid.specs.Validity.{ReadsValid}
+use Rattle.ped_versions.specs.ped_valid.proofs.OneVerdict.{one_of_both, valid_prints}
+use Rattle.ped_versions.specs.ped_update.specs.Fresh.{tested_pairs}
 use Rattle.ped_transformations.specs.ped_steps.specs.Causes.{Cause}
 use Rattle.ped_transformations.specs.ped_rules.specs.Steps.{StepAt}
 use Rattle.ped_transformations.specs.ped_rules.specs.Lawful.{IsDetermined}
@@ -23,7 +23,7 @@ use Rattle.ped_script.specs.Kinds.{step_in}
 use Rattle.ped_session.specs.declared.replies.Refusal.TheVariants.{Step}
 use Rattle.ped_session.specs.declared.replies.Reply.{Reply}
 use Rattle.ped_session.specs.declared.replies.Reply.TheVariants.{Changed, Refused}
-use Rattle.ped_session.specs.States.{State, changed_to}
+use Rattle.ped_versions.specs.States.{State, changed_to}
 use Rattle.ped_session.specs.Steps.{Transforms, missing, forbidden, transformed, change_by}
 use Rattle.ped_session.specs.AutoEditing.{TransformsTo, TakesStep, session_editing}
 

@@ -5,21 +5,22 @@ use Rattle.ped_tree.specs.Printing.{program_text}
 use Rattle.ped_tree.specs.Views.{program_tree}
 use Rattle.ped_transformations.specs.ped_symbols.specs.Kinds.{table_of}
 use Rattle.ped_transformations.specs.ped_symbols.specs.NameRefusals.{IsValid}
-use Rattle.ped_valid.specs.Validity.{ReadsValid}
-use Rattle.ped_transformations.specs.ped_graph.specs.Update.Fresh.{IsOneToOne, tested_pairs}
+use Rattle.ped_versions.specs.ped_valid.specs.Validity.{ReadsValid}
+use Rattle.ped_transformations.specs.ped_graph.specs.Keeping.{IsOneToOne}
+use Rattle.ped_versions.specs.ped_update.specs.Fresh.{tested_pairs}
 use Rattle.ped_transformations.specs.ped_steps.specs.declared.causes.Refused.{Refused}
 use Rattle.ped_transformations.specs.ped_steps.specs.declared.changes.Change as step
 use Rattle.ped_transformations.specs.ped_steps.specs.CodeCauses.{cause_of, IsShort}
-use Rattle.ped_session.specs.declared.changes.ChangeKind.{ChangeKind}
-use Rattle.ped_session.specs.declared.changes.ChangeKind.TheVariants.{Edit}
+use Rattle.ped_versions.specs.declared.changes.ChangeKind.{ChangeKind}
+use Rattle.ped_versions.specs.declared.changes.ChangeKind.TheVariants.{Edit}
 use Rattle.ped_session.specs.declared.replies.Refusal.TheVariants as refusal
 use Rattle.ped_session.specs.declared.replies.Reply.{Reply}
 use Rattle.ped_session.specs.declared.replies.Reply.TheVariants.{Changed}
-use Rattle.ped_session.specs.States.{State, changed_to}
-use Rattle.ped_session.specs.Splices.{edit_keep}
+use Rattle.ped_versions.specs.States.{State, changed_to}
+use Rattle.ped_versions.specs.Splices.{edit_keep}
 use Rattle.ped_session.specs.Meanings.{IsKept}
 use Rattle.ped_transformations.specs.ped_steps.specs.Replacing.{all_kept}
-use Rattle.ped_transformations.specs.ped_rules.specs.Flags.{flagged}
+use Rattle.ped_versions.specs.Flags.{flagged}
 use Rattle.ped_transformations.specs.ped_rules.specs.Steps.{StepAt}
 use Rattle.ped_session.specs.Steps.{Refuses}
 

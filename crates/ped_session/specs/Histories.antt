@@ -5,7 +5,7 @@ use Rattle.ped_tree.specs.Printing.{program_text}
 use Rattle.ped_transformations.specs.ped_symbols.specs.NameRefusals.{IsValid}
 use Rattle.ped_script.specs.declared.items.Command.{Command}
 use Rattle.ped_session.specs.declared.replies.Reply.TheVariants.{Changed}
-use Rattle.ped_session.specs.States.{Other, State}
+use Rattle.ped_versions.specs.States.{Other, State}
 use Rattle.ped_session.specs.Steps.{IsStep}
 
 -- a text is the printed text of a valid program

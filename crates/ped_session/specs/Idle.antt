@@ -1,14 +1,14 @@
 -- Lines of evidence that prove nothing, and what a script is told of them (this project).
 use Rattle.std.specs.Prelude.{◌≡◌, ℕ, ◌+◌, List, [], ◌∷◌, ◌++◌, codes, Bool, true, false, not, if◌then◌else◌}
 use Rattle.ped_tree.specs.Tree.{ProgramTree}
-use Rattle.ped_valid.specs.Validity.{ReadsValid}
+use Rattle.ped_versions.specs.ped_valid.specs.Validity.{ReadsValid}
 use Rattle.ped_script.specs.ped_certificates.specs.declared.claims.EvidenceLine.{EvidenceLine}
 use Rattle.ped_script.specs.ped_certificates.specs.declared.claims.EvidenceLine.TheVariants.{Empty, Malformed, Claim}
 use Rattle.ped_script.specs.declared.kinds.CommandKind.{CommandKind}
 use Rattle.ped_script.specs.Kinds.{evidence_among}
 use Rattle.ped_transformations.specs.ped_evidence.specs.Evidence.{holds}
 use Rattle.ped_transformations.specs.ped_evidence.specs.Lines.{line_of}
-use Rattle.ped_session.specs.States.{State}
+use Rattle.ped_versions.specs.States.{State}
 use Rattle.ped_session.specs.Replies.{answer_row}
 
 -- a line of evidence proves nothing in a program: it isn't of the form, or it doesn't hold there; a line without a word is passed over (this project)

@@ -7,10 +7,12 @@ pub use Rattle.ped_transformations.specs.ped_laws
 pub use Rattle.ped_transformations.specs.ped_graph
 pub use Rattle.ped_transformations.specs.ped_refs
 pub use Rattle.ped_tree
-pub use Rattle.ped_valid.specs.ped_symbols
-pub use Rattle.ped_valid
-pub use Rattle.ped_valid.specs.ped_parse
+pub use Rattle.ped_versions
+pub use Rattle.ped_versions.specs.ped_valid
+pub use Rattle.ped_versions.specs.ped_valid.specs.ped_symbols
+pub use Rattle.ped_versions.specs.ped_valid.specs.ped_parse
 pub use Rattle.ped_order
+pub use Rattle.ped_versions.specs.ped_update
 pub mod Adding
 pub mod AutoAnswers
 pub mod AutoEditing
@@ -20,7 +22,6 @@ pub mod OutcomeTexts
 pub mod Changing
 pub mod CodeStepReplies
 pub mod Histories
-pub mod Holding
 pub mod Idle
 pub mod Listing
 pub mod LoweredRuns
@@ -30,6 +31,5 @@ pub mod RaceRows
 pub mod Replies
 pub mod RunsAsBefore
 pub mod Scripts
-pub mod Splices
 pub mod States
 pub mod Steps

@@ -1,7 +1,7 @@
 -- What transformations keep in a session: the meaning of its programs (Allen and Kennedy, section 2.2.3; ParaScope; this project).
 use Rattle.std.specs.Prelude.{◌≡◌, ◌⊎◌, ℕ, List, [], ◌∷◌, ⊤}
 use Rattle.ped_tree.specs.Tree.{ProgramTree}
-use Rattle.ped_valid.specs.Validity.{ReadsValid}
+use Rattle.ped_versions.specs.ped_valid.specs.Validity.{ReadsValid}
 use Rattle.ped_eval.specs.Outcomes.{Outcome, outcome, IsRaceFree}
 use Rattle.ped_transformations.specs.ped_loop_runs.specs.Unrejected.{IsTrusted}
 use Rattle.ped_transformations.specs.ped_loop_runs.specs.Meaning.{KeepsOn}
@@ -11,9 +11,9 @@ use Rattle.ped_transformations.specs.ped_rules.specs.Lawful.{IsFaithful}
 use Rattle.ped_transformations.specs.Table.{step_of}
 use Rattle.ped_script.specs.declared.kinds.StepCommand.{StepCommand}
 use Rattle.ped_session.specs.LoweredRuns.{HasNoLiveList}
-use Rattle.ped_session.specs.declared.changes.ChangeKind.{ChangeKind}
-use Rattle.ped_session.specs.declared.changes.ChangeKind.TheVariants.{Edit, Rejection, Transformation}
-use Rattle.ped_session.specs.States.{Other, State}
+use Rattle.ped_versions.specs.declared.changes.ChangeKind.{ChangeKind}
+use Rattle.ped_versions.specs.declared.changes.ChangeKind.TheVariants.{Edit, Rejection, Transformation}
+use Rattle.ped_versions.specs.States.{Other, State}
 use Rattle.ped_session.specs.OutcomeTexts.{outcome_text}
 
 -- what each step that makes the second program of the first asks of data besides, beyond the first program's own dependences, is true of these data. Only `fuse` asks something (this project)

@@ -3,7 +3,7 @@ use Rattle.std.specs.Prelude.{◌≡◌, ℕ, List, [], ◌∷◌, Option, Some}
 use Rattle.ped_script.specs.declared.items.Command.{Command}
 use Rattle.ped_script.specs.declared.items.Command.TheVariants.{Run}
 use Rattle.ped_script.specs.declared.items.Item.{Item}
-use Rattle.ped_session.specs.States.{State}
+use Rattle.ped_versions.specs.States.{State}
 use Rattle.ped_session.specs.Meanings.{IsMeaningKept, ShowsAsBefore}
 use Rattle.ped_session.specs.Scripts.{Said, nothing_said, said_both, AnswersItem}
 

@@ -6,7 +6,7 @@ use Rattle.ped_script.specs.declared.items.Item.{Item}
 use Rattle.ped_script.specs.Kinds.{kind_of}
 use Rattle.ped_session.specs.declared.replies.Reply.{Reply}
 use Rattle.ped_session.specs.declared.replies.Reply.TheVariants.{Changed, Shown, Refused}
-use Rattle.ped_session.specs.States.{State}
+use Rattle.ped_versions.specs.States.{State}
 use Rattle.ped_session.specs.Replies.{bad_command_row, reply_text, is_refused}
 use Rattle.ped_session.specs.Steps.{IsStep}
 use Rattle.ped_session.specs.Idle.{AreIdle}

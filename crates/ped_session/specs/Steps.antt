@@ -6,9 +6,9 @@ use Rattle.ped_tree.specs.Numbering.{statement_with}
 use Rattle.ped_transformations.specs.ped_symbols.specs.NameRefusals.{IsValid}
 use Rattle.ped_tree.specs.Grammar.RefusalViews.{finding_of}
 use Rattle.ped_tree.specs.declared.grammar.refusals.Refusal as reading
-use Rattle.ped_valid.specs.Validity.{ReadsValid, RefusesText}
+use Rattle.ped_versions.specs.ped_valid.specs.Validity.{ReadsValid, RefusesText}
 use Rattle.ped_transformations.specs.ped_graph.specs.DependencePane.{IsDependencePane, IsDependencePaneOf}
-use Rattle.ped_transformations.specs.ped_graph.specs.Update.Fresh.{tested_pairs}
+use Rattle.ped_versions.specs.ped_update.specs.Fresh.{tested_pairs}
 use Rattle.ped_transformations.specs.ped_steps.specs.Causes.{Cause}
 use Rattle.ped_script.specs.ped_certificates.specs.declared.claims.Position.{Position}
 use Rattle.ped_script.specs.ped_certificates.specs.declared.claims.Sign.{Sign}
@@ -24,14 +24,14 @@ use Rattle.ped_script.specs.declared.kinds.ProgramRun.TheVariants.{Run, Races}
 use Rattle.ped_script.specs.declared.kinds.CommandKind.{CommandKind}
 use Rattle.ped_script.specs.declared.kinds.CommandKind.TheVariants as kind
 use Rattle.ped_script.specs.Kinds.{kind_of}
-use Rattle.ped_session.specs.declared.changes.ChangeKind.{ChangeKind}
-use Rattle.ped_session.specs.declared.changes.ChangeKind.TheVariants.{Edit, Rejection, Transformation}
+use Rattle.ped_versions.specs.declared.changes.ChangeKind.{ChangeKind}
+use Rattle.ped_versions.specs.declared.changes.ChangeKind.TheVariants.{Edit, Rejection, Transformation}
 use Rattle.ped_session.specs.declared.replies.Refusal.TheVariants.{BadEdit, Step, NothingToUndo, NothingToRedo, NoSuchStatement, NoSuchLine, NoSuchPair}
 use Rattle.ped_session.specs.declared.replies.Reply.{Reply}
 use Rattle.ped_session.specs.declared.replies.Reply.TheVariants.{Changed, Shown, Refused}
 use Rattle.ped_session.specs.declared.replies.Refusal.{Refusal}
-use Rattle.ped_session.specs.States.{Other, State, changed_to, gone_back_to, gone_forward_to}
-use Rattle.ped_session.specs.Splices.{spliced, are_lines, is_place, edit_keep}
+use Rattle.ped_versions.specs.States.{Other, State, changed_to, gone_back_to, gone_forward_to}
+use Rattle.ped_versions.specs.Splices.{spliced, are_lines, is_place, edit_keep}
 use Rattle.ped_session.specs.Panes.{IsSourcePane, ArePanes, tested_row}
 use Rattle.ped_session.specs.OutcomeTexts.{IsRunText}
 use Rattle.ped_session.specs.RaceRows.{IsRaceRow}

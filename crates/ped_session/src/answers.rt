@@ -1,7 +1,7 @@
 //! The items of a script, answered one after another.
 
 ghost use Rattle.std.specs.Prelude.{◌≡◌, ◌≢◌, ◌+◌, ◌≤◌, Some, IfOk, OnOk};
-ghost use Rattle.ped_session.specs.States.{State};
+ghost use Rattle.ped_versions.specs.States.{State};
 ghost use Rattle.ped_session.specs.Scripts as Spec;
 ghost use Rattle.ped_session.specs.Scripts.{AnswersItems};
 ghost use Rattle.ped_session.specs.RunsAsBefore.{AnswersAsBefore};
@@ -52,7 +52,7 @@ pub fn answer_items<L: Ledger>(
     every_step_is_lawful();
     interleavings_agree();
     lowering_keeps_the_meaning();
-    let _ = &session.present;
+    let _ = &session.versions;
     let mut answered = Answered {
         bytes: Bytes::new(alloc),
         refused: false,

@@ -27,19 +27,20 @@ impl<L: Ledger> Editor<L> for Session<L> {
     ghost laws = { session_laws };
 
     fn count(&self) -> u32 {
-        self.present.program.count()
+        self.versions.present().program.count()
     }
 
     fn is_serial_loop(&self, number: u32) -> bool {
-        is_serial_at(&self.present.program, number)
+        is_serial_at(self.versions.present().program, number)
     }
 
     fn carried(&self, alloc: Global, number: u32) -> Result<Vec<RefName>, NoMemory> {
-        carried_names(alloc, &self.present.program, &self.graph, number)
+        let present = self.versions.present();
+        carried_names(alloc, present.program, present.graph, number)
     }
 
     fn is_scalar(&self, name: &Name) -> bool {
-        self.present.symbols.is_scalar(name)
+        self.versions.present().symbols.is_scalar(name)
     }
 
     fn step(

@@ -3,25 +3,22 @@
 ghost use Rattle.std.specs.Prelude.{◌≡◌, ◌+◌, ◌≤◌, IfOk, OnErr};
 ghost use Rattle.ped_tree.specs.Tree.{ProgramTree};
 ghost use Rattle.ped_tree.specs.Views.{program_tree};
-ghost use Rattle.ped_transformations.specs.ped_symbols.specs.NameRefusals.{IsValid};
-ghost use Rattle.ped_transformations.specs.ped_symbols.specs.Kinds.{table_of};
-ghost use Rattle.ped_valid.specs.Validity.{ReadsValid};
-ghost use Rattle.ped_transformations.specs.ped_graph.specs.Update.Fresh.{tested_pairs};
-ghost use Rattle.ped_session.specs.declared.replies.Reply.{Reply};
-ghost use Rattle.ped_session.specs.States.{State};
+ghost use Rattle.ped_versions.specs.ped_valid.specs.ped_symbols.specs.NameRefusals.{IsValid};
+ghost use Rattle.ped_versions.specs.ped_valid.specs.ped_symbols.specs.Kinds.{table_of};
+ghost use Rattle.ped_versions.specs.ped_valid.specs.Validity.{ReadsValid};
+ghost use Rattle.ped_versions.specs.ped_update.specs.Fresh.{tested_pairs};
 ghost use Rattle.ped_session.specs.Changing.{EditChanges};
-ghost use Rattle.ped_session.specs.Splices as Splices;
+ghost use Rattle.ped_session.specs.declared.replies.Reply.{Reply};
+ghost use Rattle.ped_versions.specs.States.{State};
+ghost use Rattle.ped_versions.specs.Splices as Splices;
 ghost use Rattle.ped_session.specs.Steps.{Edits, Replaces, Inserts};
 ghost use Rattle.ped_session.specs.Scripts.{tests_of};
 
-use crate::changes::ChangeKind;
-use crate::keeping::edit_keep;
 use crate::replies::{Refusal, Reply};
 use crate::session::Session;
-use crate::splices::{line_count, spliced};
 use ped_base::{Bytes, NoMemory};
-use ped_valid::{OpenRefusal, Opened, open_program};
 use ped_verdict::Steps;
+use ped_versions::{OpenRefusal, Opened, line_count, open_program, spliced};
 use std::alloc::Global;
 use std::sync::ledger::Ledger;
 
@@ -109,8 +106,8 @@ impl<L: Ledger> Session<L> {
         ensures least { steps.old ≤ steps.new }
         ensures most { (old : ProgramTree) → ReadsValid self.old.present old → steps.new ≤ steps.old + tested_pairs old (program_tree new.program) (Splices.edit_keep old (program_tree new.program) kept gone) }
     {
-        let keep = edit_keep(alloc, &self.present.program, &new.program, kept, gone)?;
-        self.change(alloc, new, &keep, ChangeKind::Edit, steps)
+        self.versions.edit(alloc, new, kept, gone, steps)?;
+        Ok(Reply::Changed)
     }
 }
 

@@ -3,15 +3,16 @@
 ghost use Rattle.std.specs.Prelude.{◌≡◌, ◌++◌, ◌+◌, map, length, IfOk, OnOk};
 ghost use Rattle.ped_script.specs.Kinds.{kind_of};
 ghost use Rattle.ped_tree.specs.Tree.{ProgramTree};
+ghost use Rattle.ped_tree.specs.Views.{program_tree};
 ghost use Rattle.ped_transformations.specs.ped_evidence.specs.Lines.{line_holds};
-ghost use Rattle.ped_session.specs.Holding.{IsVersion, tree_of};
+ghost use Rattle.ped_versions.specs.Holding.{IsPresent};
 ghost use Rattle.ped_session.specs.Idle as Spec;
 
 use crate::session::Session;
-use crate::versions::Version;
 use ped_base::{Bytes, NoMemory, push_signed};
 use ped_script::{Command, EvidenceLine};
 use ped_transformations::judge;
+use ped_versions::Present;
 use std::alloc::Global;
 use std::sync::ledger::Ledger;
 
@@ -25,21 +26,21 @@ impl<L: Ledger> Session<L> {
         if evidence.is_empty() {
             return Ok(Bytes::new(alloc));
         }
-        idle_rows(alloc, &self.present, line, evidence)
+        idle_rows(alloc, &self.versions.present(), line, evidence)
     }
 }
 
-/// The rows of the lines that are idle in a program, where these are the lines of the script after this one.
-fn idle_rows(
+/// The rows of the lines that are idle in the present program, where these are the lines of the script after this one.
+fn idle_rows<L: Ledger>(
     alloc: Global,
-    version: &Version,
+    present: &Present<'_, L>,
     line: u64,
     evidence: &[EvidenceLine],
 ) -> Result<Bytes, NoMemory>
-    requires { IsVersion version.now }
-    ensures { IfOk result (λ rows. rows ≡ Spec.idle_rows (tree_of version.now) (line + 1) evidence.now) }
+    requires { IsPresent present.now }
+    ensures { IfOk result (λ rows. rows ≡ Spec.idle_rows (program_tree present.now.program.now) (line + 1) evidence.now) }
 {
-    let held = judge(alloc, &version.program, &version.symbols, evidence)?;
+    let held = judge(alloc, present.program, present.symbols, evidence)?;
     rows_of(alloc, line, evidence, &held)
 }
 

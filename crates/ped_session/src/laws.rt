@@ -3,7 +3,7 @@
 ghost use Rattle.std.specs.Prelude.{◌≡◌, ◌↔◌, ℕ, List, [], length};
 ghost use Rattle.ped_tree.specs.Tree.{ProgramTree};
 ghost use Rattle.ped_transformations.specs.ped_symbols.specs.NameRefusals.{IsValid};
-ghost use Rattle.ped_valid.specs.Validity.{ReadsValid};
+ghost use Rattle.ped_versions.specs.ped_valid.specs.Validity.{ReadsValid};
 ghost use Rattle.ped_eval.specs.Outcomes.{Outcome, outcome, IsRaceFree};
 ghost use Rattle.ped_order.specs.ped_interleavings.specs.Interleavings.{IsInterleaved};
 ghost use Rattle.ped_transformations.specs.ped_loop_runs.specs.Unrejected.{IsTrusted};
@@ -17,7 +17,7 @@ ghost use Rattle.ped_script.specs.declared.items.Item.{Item};
 ghost use Rattle.ped_session.specs.declared.replies.Refusal as code_refusal;
 ghost use Rattle.ped_session.specs.declared.replies.Reply as code_reply;
 ghost use Rattle.ped_session.specs.declared.replies.Reply.TheVariants.{Changed, Refused};
-ghost use Rattle.ped_session.specs.States.{State, opened};
+ghost use Rattle.ped_versions.specs.States.{State, opened};
 ghost use Rattle.ped_session.specs.OutcomeTexts.{outcome_text};
 ghost use Rattle.ped_session.specs.LoweredRuns.{HasNoList, HasNoLiveList, IsLoweredRun, IsLoweredInOrder};
 ghost use Rattle.ped_session.specs.Steps.{Shows, IsStep};

@@ -1,19 +1,16 @@
-//! A session: a program that is edited step by step. It holds the present source with its dependence graph, and the
-//! past and future sources with what changes between them. The definitions are in `specs/`. Contracts see a session
-//! as texts: past sources, the present one, future ones, and between neighbours the kind of the change. What a
-//! command does is one sentence for each command (`IsStep`).
+//! A session: a program that is edited step by step. It holds the versions of the program, and keeps that each
+//! transformation between them keeps the meaning. The definitions are in `specs/`. Contracts see a session as texts:
+//! past sources, the present one, future ones, and between neighbours the kind of the change. What a command does is
+//! one sentence for each command (`IsStep`).
 #![tactic(auto)]
 
 mod answers;
 mod auto_texts;
 mod automatic;
 mod carrying;
-mod changes;
 mod changing;
 mod editing;
-mod flags;
 mod idle;
-mod keeping;
 mod laws;
 mod listing;
 mod moving;
@@ -25,12 +22,9 @@ mod running;
 mod scripts;
 mod session;
 mod showing;
-mod splices;
 mod transforming;
-mod versions;
 
 pub use answers::{Answered, answer_items};
-pub use changes::ChangeKind;
 pub use laws::{
     auto_is_a_script, auto_is_undone, auto_keeps_the_meaning, auto_replays,
     interleavings_keep_the_meaning, moves_restore_each_other, one_answer, one_step,
@@ -43,6 +37,7 @@ pub use ped_order::{
     Graph, an_interleaving, conflicts_are_covered, races_are_covered, without_choices,
 };
 pub use ped_transformations::{calls_are_covered, disproved_never_meets};
+pub use ped_versions::ChangeKind;
 pub use replies::{FirstCause, Refusal, Reply};
 pub use scripts::{bad_command_row, reply_text};
 pub use session::Session;

@@ -4,21 +4,18 @@ ghost use Rattle.std.specs.Prelude.{◌≡◌, IfOk, OnErr};
 ghost use Rattle.ped_tree.specs.Views.{program_tree};
 ghost use Rattle.ped_tree.specs.Printing.{program_text};
 ghost use Rattle.ped_transformations.specs.ped_symbols.specs.NameRefusals.{IsValid};
-ghost use Rattle.ped_session.specs.declared.changes.ChangeKind.TheVariants.{Transformation};
+ghost use Rattle.ped_versions.specs.declared.changes.ChangeKind.TheVariants.{Transformation};
 ghost use Rattle.ped_session.specs.Changing.{Changes, IsTakeable, Takes, IsParallelOf, AnswersParallel};
 ghost use Rattle.ped_session.specs.Meanings.{IsKept};
 ghost use Rattle.ped_session.specs.Scripts.{tests_of};
 
-use crate::changes::ChangeKind;
-use crate::flags::set_flag;
 use crate::replies::{FirstCause, Refusal, Reply};
 use crate::session::Session;
-use crate::versions::{Entry, Way};
 use ped_base::NoMemory;
 use ped_print::print;
 use ped_transformations::{Change, Refused};
+use ped_versions::ChangeKind;
 use std::alloc::Global;
-use std::mem::replace;
 use std::sync::ledger::Ledger;
 
 impl<L: Ledger> Session<L> {
@@ -62,18 +59,8 @@ impl<L: Ledger> Session<L> {
         ensures untested { IfOk result (λ reply. tests_of reply self.new ≡ 0) }
     {
         let text = print(alloc, &change.tree)?;
-        self.history.reserve()?;
-        set_flag(&mut self.present.program, number, true);
-        let other = replace(&mut self.present.text, text);
-        self.tested = 0;
-        self.history.push(Entry {
-            text: other,
-            change: ChangeKind::Transformation,
-            way: Way::Flag {
-                number,
-                parallel: false,
-            },
-        });
+        let kind = ChangeKind::Transformation;
+        self.versions.change_flag(number, true, text, kind)?;
         Ok(Reply::Changed)
     }
 }

@@ -2,67 +2,58 @@
 
 ghost use Rattle.std.specs.Prelude.{◌≡◌, IfOk};
 ghost use Rattle.ped_tree.specs.Views.{program_tree};
-ghost use Rattle.ped_transformations.specs.ped_graph.specs.Held.{held_of};
 ghost use Rattle.ped_transformations.specs.ped_symbols.specs.Kinds.{table_of};
 ghost use Rattle.ped_transformations.specs.ped_symbols.specs.NameRefusals.{IsValid};
 ghost use Rattle.ped_eval.specs.OutcomeViews.{outcome_view};
 ghost use Rattle.ped_order.specs.ped_interleavings.specs.Interleavings.{IsInterleaved};
 ghost use Rattle.ped_transformations.specs.ped_reduce.specs.Reducing.{IsLowered};
 ghost use Rattle.ped_transformations.specs.ped_reduce.specs.CodeLowered.{lowered_view};
-ghost use Rattle.ped_session.specs.Holding.{tree_of, IsVersion};
+ghost use Rattle.ped_versions.specs.Holding.{IsPresent};
 ghost use Rattle.ped_session.specs.LoweredRuns as Spec;
 ghost use Rattle.ped_session.specs.LoweredRuns.{IsLoweredRun};
 
 use crate::listing::some_holds_list;
-use crate::versions::Version;
 use ped_base::NoMemory;
 use ped_eval::{Outcome, run_in_order};
 use ped_machine::run_by_choices;
-use ped_order::{Graph, an_interleaving, flow_of, without_choices};
+use ped_order::{an_interleaving, flow_of, without_choices};
 use ped_transformations::{Lowered, Scene, lower};
 use ped_tree::Program;
-use ped_valid::Symbols;
+use ped_versions::{Present, Symbols};
 use std::alloc::Global;
 use std::sync::ledger::Ledger;
 
-/// Runs what a program, whose graph this is, is lowered to, on these data. The choices pick which iteration of an open
+/// Runs what the present program is lowered to, on these data. The choices pick which iteration of an open
 /// PARALLEL DO does the next step, and after their end 0 does. A fault is reported with the statement of the program
 /// itself. Where no DO has a list of sums, the program runs as it is.
-pub(crate) fn run_version<L: Ledger>(
+pub(crate) fn run_present<L: Ledger>(
     alloc: Global,
-    version: &Version,
-    graph: &Graph<L>,
+    present: &Present<'_, L>,
     input: &[u8],
     choices: &[u64],
 ) -> Result<Outcome, NoMemory>
-    requires version { IsVersion version.now }
-    requires graph { graph.now ≡ held_of (tree_of version.now) }
-    ensures { IfOk result (λ o. IsLoweredRun choices.now input.now (tree_of version.now) (outcome_view o)) }
+    requires { IsPresent present.now }
+    ensures { IfOk result (λ o. IsLoweredRun choices.now input.now (program_tree present.now.program.now) (outcome_view o)) }
 {
-    if some_holds_list(alloc, &version.program.body)? {
-        let lowered = lower_version(alloc, version, graph)?;
+    if some_holds_list(alloc, &present.program.body)? {
+        let lowered = lower_present(alloc, present)?;
         return run_lowered(alloc, &lowered, input, choices);
     }
-    run_program(alloc, &version.program, &version.symbols, input, choices)
+    run_program(alloc, present.program, present.symbols, input, choices)
 }
 
-/// What a program is lowered to.
-fn lower_version<L: Ledger>(
-    alloc: Global,
-    version: &Version,
-    graph: &Graph<L>,
-) -> Result<Lowered, NoMemory>
-    requires version { IsVersion version.now }
-    requires graph { graph.now ≡ held_of (tree_of version.now) }
-    ensures lowered { IfOk result (λ l. IsLowered (tree_of version.now) (lowered_view l)) }
+/// What the present program is lowered to.
+fn lower_present<L: Ledger>(alloc: Global, present: &Present<'_, L>) -> Result<Lowered, NoMemory>
+    requires { IsPresent present.now }
+    ensures lowered { IfOk result (λ l. IsLowered (program_tree present.now.program.now) (lowered_view l)) }
     ensures valid { IfOk result (λ l. IsValid (program_tree l.tree)) }
     ensures symbols { IfOk result (λ l. l.symbols ≡ table_of (program_tree l.tree)) }
 {
-    let flow = flow_of(alloc, &version.program)?;
+    let flow = flow_of(alloc, present.program)?;
     let scene = Scene {
-        tree: &version.program,
-        symbols: &version.symbols,
-        graph,
+        tree: present.program,
+        symbols: present.symbols,
+        graph: present.graph,
         flow: &flow,
     };
     lower(alloc, &scene)

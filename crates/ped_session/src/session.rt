@@ -8,15 +8,15 @@ ghost use Rattle.ped_tree.specs.Views.{program_tree};
 ghost use Rattle.ped_transformations.specs.ped_symbols.specs.NameRefusals.{IsValid};
 ghost use Rattle.ped_transformations.specs.ped_symbols.specs.Kinds.{table_of};
 ghost use Rattle.ped_tree.specs.Grammar.Refusal.{Finding};
-ghost use Rattle.ped_valid.specs.Validity.{ReadsValid, RefusesText};
-ghost use Rattle.ped_valid.specs.Refusals.{IsRefusalOf};
+ghost use Rattle.ped_versions.specs.ped_valid.specs.Validity.{ReadsValid, RefusesText};
+ghost use Rattle.ped_versions.specs.ped_valid.specs.Refusals.{IsRefusalOf};
 ghost use Rattle.ped_edges.specs.Edges as plain;
 ghost use Rattle.ped_transformations.specs.ped_graph.specs.Dependences.{AreEdges};
 ghost use Rattle.ped_eval.specs.OutcomeViews.{outcome_view};
 ghost use Rattle.ped_session.specs.declared.replies.Reply.{Reply};
 ghost use Rattle.ped_session.specs.LoweredRuns.{IsLoweredRun};
 ghost use Rattle.ped_session.specs.Meanings.{IsAsBefore, IsTrulyAsBefore};
-ghost use Rattle.ped_session.specs.States.{State, opened};
+ghost use Rattle.ped_versions.specs.States.{State, opened};
 ghost use Rattle.ped_session.specs.Steps.{IsStep, IsStepOf};
 ghost use Rattle.ped_session.specs.Scripts.{tests_of};
 ghost use Rattle.ped_script.specs.declared.items.Command.TheVariants as commands;
@@ -24,18 +24,14 @@ ghost use Rattle.ped_script.specs.declared.kinds.CommandKind.TheVariants as kind
 ghost use Rattle.ped_script.specs.Kinds.{kind_of, IsMove};
 
 use crate::replies::Reply;
-use crate::running::run_version;
-use crate::versions::{Entry, Version};
+use crate::running::run_present;
 use ped_base::NoMemory;
-use ped_edges::Edge;
 use ped_eval::Outcome;
-use ped_history::History;
-use ped_order::{Graph, interleavings_agree};
-use ped_print::print;
+use ped_order::interleavings_agree;
 use ped_script::{Command, CommandKind, HistoryMove, LineEdit, ProgramRun};
 use ped_transformations::lowering_keeps_the_meaning;
-use ped_valid::{OpenRefusal, Opened, open_program};
 use ped_verdict::Steps;
+use ped_versions::{OpenRefusal, Opened, Versions};
 use std::alloc::Global;
 use std::marker::Model;
 use std::sync::ledger::Ledger;
@@ -43,22 +39,18 @@ use std::sync::ledger::Ledger;
 /// A session on a program. Contracts see its state: the past sources, the present one and the future ones.
 #[derive(Drop)]
 pub struct Session<L: Ledger> {
-    pub(crate) present: Version,
-    pub(crate) graph: Graph<L>,
-    pub(crate) history: History<Entry<L>>,
-    pub(crate) tested: u64,
+    pub(crate) versions: Versions<L>,
 }
 
 impl<L: Ledger> Model for Session<L> {
-    ghost use Rattle.std.specs.Prelude.{map};
-    ghost use Rattle.ped_session.specs.States.{State};
-    ghost use Rattle.ped_session.specs.Holding.{other_of, IsConsistent};
+    ghost use Rattle.ped_versions.specs.States.{State};
+    ghost use Rattle.ped_session.specs.Meanings.{IsMeaningKept};
 
     ghost Value = { State };
 
-    ghost view = { λ s. record { past = map other_of s.history.past; present = s.present.text; future = map other_of s.history.future; tested = s.tested } };
+    ghost view = { λ s. s.versions };
 
-    ghost invariant = { λ s. IsConsistent s.present s.graph s.history.past s.history.future };
+    ghost invariant = { λ s. IsMeaningKept s.versions };
 }
 
 impl<L: Ledger> Session<L> {
@@ -78,11 +70,8 @@ impl<L: Ledger> Session<L> {
         ensures least { steps.old ≤ steps.new }
         ensures most { (t : ProgramTree) → ReadsValid text.now t → steps.new ≤ steps.old + pair_count (references t) }
     {
-        let program = open_program(alloc, text)?;
-        match Session::begin(alloc, program, steps) {
-            Ok(session) => Ok(session),
-            Err(NoMemory) => Err(OpenRefusal::NoMemory),
-        }
+        let versions = Versions::open(alloc, text, steps)?;
+        Ok(Session { versions })
     }
 
     /// A session on a valid program that is opened already. Its present source is the program's printed text, and each
@@ -95,56 +84,43 @@ impl<L: Ledger> Session<L> {
         ensures least { steps.old ≤ steps.new }
         ensures most { steps.new ≤ steps.old + pair_count (references (program_tree new.program)) }
     {
-        let text = print(alloc, &new.program)?;
-        let graph = Graph::build(alloc, &new.program, new.symbols.consts(), steps)?;
-        let tested = graph.pair_count();
-        Ok(Session {
-            present: Version {
-                program: new.program,
-                symbols: new.symbols,
-                text,
-            },
-            graph,
-            history: History::new(alloc),
-            tested,
-        })
+        let versions = Versions::begin(alloc, new, steps)?;
+        Ok(Session { versions })
     }
 
     /// The present source.
     pub fn source(&self) -> &[u8]
         ensures { result.now ≡ self.now.present }
     {
-        self.present.text.as_slice()
+        self.versions.source()
     }
 
     /// How many numbered statements the present program has.
     pub fn statements(&self) -> u64
         ensures { (t : ProgramTree) → ReadsValid self.now.present t → result ≡ statements_count t.body }
     {
-        self.graph.statement_count()
+        self.versions.statements()
     }
 
     /// How many ordered pairs of references the present program has.
     pub fn pairs(&self) -> u64
         ensures { (t : ProgramTree) → ReadsValid self.now.present t → result ≡ pair_count (references t) }
     {
-        self.graph.pair_count()
+        self.versions.pairs()
     }
 
     /// How many dependences the present program has.
     pub fn edges(&self, alloc: Global) -> Result<u64, NoMemory>
         ensures { IfOk result (λ n. (t : ProgramTree) → ReadsValid self.now.present t → (edges : List plain.Edge) → AreEdges t edges → n ≡ length edges) }
     {
-        let found = self.graph.edges(alloc)?;
-        let edges: &[Edge] = &found;
-        Ok(edges.len() as u64)
+        self.versions.edges(alloc)
     }
 
     /// How many pairs of references the last accepted change, undo or redo has tested, or the opening.
     pub fn tested(&self) -> u64
         ensures { result ≡ self.now.tested }
     {
-        self.tested
+        self.versions.tested()
     }
 
     /// Runs the present program on the lines of its data: what it is lowered to, so that sums of a list that is live
@@ -160,7 +136,7 @@ impl<L: Ledger> Session<L> {
     {
         interleavings_agree();
         lowering_keeps_the_meaning();
-        run_version(alloc, &self.present, &self.graph, input, choices)
+        run_present(alloc, &self.versions.present(), input, choices)
     }
 
     /// Answers a command; programs are run on these data. A refused command leaves the session as it was, and so does

@@ -13,7 +13,7 @@ ghost use Rattle.ped_session.specs.Steps.{Shows, ShowsStatement, ShowsSystem, Pr
 use crate::outcome_texts::outcome_text;
 use crate::race_rows::race_row;
 use crate::replies::{Refusal, Reply};
-use crate::running::run_version;
+use crate::running::run_present;
 use crate::session::Session;
 use ped_base::{Bytes, NoMemory, push_number};
 use ped_order::{flow_of, races};
@@ -47,39 +47,41 @@ impl<L: Ledger> Session<L> {
     fn show_source(&self, alloc: Global) -> Result<Reply, NoMemory>
         ensures { IfOk result (λ reply. Shows IsSourcePane self.now reply self.now) }
     {
-        Ok(Reply::Shown(source_pane(alloc, &self.present.program)?))
+        Ok(Reply::Shown(source_pane(alloc, self.versions.present().program)?))
     }
 
     /// The dependence pane.
     fn show_all_dependences(&self, alloc: Global) -> Result<Reply, NoMemory>
         ensures { IfOk result (λ reply. Shows IsDependencePane self.now reply self.now) }
     {
-        Ok(Reply::Shown(self.graph.dependence_pane(alloc, None)?))
+        Ok(Reply::Shown(self.versions.present().graph.dependence_pane(alloc, None)?))
     }
 
     /// The dependence pane of the statement with this number, where there is one.
     fn show_dependences_of(&self, alloc: Global, number: u32) -> Result<Reply, NoMemory>
         ensures { IfOk result (λ reply. ShowsStatement (λ t. IsDependencePaneOf t (Some number)) number self.now reply self.now) }
     {
-        if !self.graph.has_statement(number) {
+        let graph = self.versions.present().graph;
+        if !graph.has_statement(number) {
             return Ok(Reply::Refused(Refusal::NoSuchStatement));
         }
-        Ok(Reply::Shown(self.graph.dependence_pane(alloc, Some(number))?))
+        Ok(Reply::Shown(graph.dependence_pane(alloc, Some(number))?))
     }
 
     /// How many pairs of references the last accepted change, undo or redo has tested, or the opening.
     fn show_tested(&self, alloc: Global) -> Result<Reply, NoMemory>
         ensures { IfOk result (λ reply. Prints (Panes.tested_row self.now.tested) self.now reply self.now) }
     {
-        Ok(Reply::Shown(tested_row(alloc, self.tested)?))
+        Ok(Reply::Shown(tested_row(alloc, self.tested())?))
     }
 
     /// Both panes.
     fn show_both(&self, alloc: Global) -> Result<Reply, NoMemory>
         ensures { IfOk result (λ reply. Shows ArePanes self.now reply self.now) }
     {
-        let mut panes = source_pane(alloc, &self.present.program)?;
-        let dependences = self.graph.dependence_pane(alloc, None)?;
+        let present = self.versions.present();
+        let mut panes = source_pane(alloc, present.program)?;
+        let dependences = present.graph.dependence_pane(alloc, None)?;
         panes.extend_from_slice(dependences.as_slice())?;
         Ok(Reply::Shown(panes))
     }
@@ -88,12 +90,12 @@ impl<L: Ledger> Session<L> {
     fn show_calls(&self, alloc: Global) -> Result<Reply, NoMemory>
         ensures { IfOk result (λ reply. Shows IsCallsPane self.now reply self.now) }
     {
-        let present = &self.present;
-        let flow = flow_of(alloc, &present.program)?;
+        let present = self.versions.present();
+        let flow = flow_of(alloc, present.program)?;
         let scene = Scene {
-            tree: &present.program,
-            symbols: &present.symbols,
-            graph: &self.graph,
+            tree: present.program,
+            symbols: present.symbols,
+            graph: present.graph,
             flow: &flow,
         };
         Ok(Reply::Shown(calls_pane(alloc, &scene)?))
@@ -112,15 +114,15 @@ impl<L: Ledger> Session<L> {
     fn show_advice(&self, alloc: Global, number: u32) -> Result<Reply, NoMemory>
         ensures { IfOk result (λ reply. ShowsStatement (λ t. IsAdvice t number) number self.now reply self.now) }
     {
-        if !self.graph.has_statement(number) {
+        let present = self.versions.present();
+        if !present.graph.has_statement(number) {
             return Ok(Reply::Refused(Refusal::NoSuchStatement));
         }
-        let present = &self.present;
-        let flow = flow_of(alloc, &present.program)?;
+        let flow = flow_of(alloc, present.program)?;
         let scene = Scene {
-            tree: &present.program,
-            symbols: &present.symbols,
-            graph: &self.graph,
+            tree: present.program,
+            symbols: present.symbols,
+            graph: present.graph,
             flow: &flow,
         };
         Ok(Reply::Shown(advice(alloc, &scene, number)?))
@@ -136,11 +138,11 @@ impl<L: Ledger> Session<L> {
     ) -> Result<Reply, NoMemory>
         ensures { IfOk result (λ reply. ShowsSystem source.now sink.now pattern.now self.now reply self.now) }
     {
-        let present = &self.present;
+        let present = self.versions.present();
         match system_text(
             alloc,
-            &present.program,
-            &present.symbols,
+            present.program,
+            present.symbols,
             source,
             sink,
             pattern,
@@ -159,7 +161,7 @@ impl<L: Ledger> Session<L> {
     ) -> Result<Reply, NoMemory>
         ensures { IfOk result (λ reply. Shows (IsRunText choices.now input.now) self.now reply self.now) }
     {
-        let outcome = run_version(alloc, &self.present, &self.graph, input, choices)?;
+        let outcome = run_present(alloc, &self.versions.present(), input, choices)?;
         Ok(Reply::Shown(outcome_text(alloc, &outcome)?))
     }
 
@@ -167,8 +169,8 @@ impl<L: Ledger> Session<L> {
     pub(crate) fn show_races(&self, alloc: Global, input: &[u8]) -> Result<Reply, NoMemory>
         ensures { IfOk result (λ reply. Shows (IsRaceRow input.now) self.now reply self.now) }
     {
-        let present = &self.present;
-        let report = races(alloc, &present.program, &present.symbols, input)?;
+        let present = self.versions.present();
+        let report = races(alloc, present.program, present.symbols, input)?;
         Ok(Reply::Shown(race_row(alloc, &report)?))
     }
 }

@@ -2,24 +2,23 @@
 
 ghost use Rattle.std.specs.Prelude.{◌≡◌, ◌+◌, ◌≤◌, IsTrue, IfOk, OnErr};
 ghost use Rattle.ped_tree.specs.Tree.{ProgramTree};
-ghost use Rattle.ped_valid.specs.Validity.{ReadsValid};
+ghost use Rattle.ped_versions.specs.ped_valid.specs.Validity.{ReadsValid};
 ghost use Rattle.ped_transformations.specs.Table.{step_of};
 ghost use Rattle.ped_script.specs.declared.kinds.WhichStep.TheVariants.{Parallel};
 ghost use Rattle.ped_session.specs.declared.replies.Reply.{Reply};
-ghost use Rattle.ped_session.specs.States.{State};
+ghost use Rattle.ped_versions.specs.States.{State};
 ghost use Rattle.ped_session.specs.Steps.{Transforms, change_by};
 ghost use Rattle.ped_session.specs.Changing.{IsStepAnswer, IsTakeable, Takes, most_tests};
 ghost use Rattle.ped_session.specs.Scripts.{tests_of};
 
-use crate::changes::ChangeKind;
 use crate::replies::{FirstCause, Refusal, Reply};
 use crate::session::Session;
 use ped_base::NoMemory;
 use ped_order::flow_of;
 use ped_script::{StepCommand, WhichStep};
 use ped_transformations::{Refused, Scene, StepAnswer, every_step_is_lawful};
-use ped_valid::Opened;
 use ped_verdict::Steps;
+use ped_versions::{ChangeKind, Opened};
 use std::alloc::Global;
 use std::sync::ledger::Ledger;
 
@@ -38,7 +37,8 @@ impl<L: Ledger> Session<L> {
         ensures most { (reply : Reply) (next : State) → Transforms (step_of command.now) self.old reply next → steps.new ≤ steps.old + tests_of reply next }
     {
         every_step_is_lawful();
-        if !self.graph.has_statement(command.statement) {
+        let graph = self.versions.present().graph;
+        if !graph.has_statement(command.statement) {
             return Ok(Reply::Refused(Refusal::NoSuchStatement));
         }
         let answer = self.answer(alloc, command)?;
@@ -54,12 +54,12 @@ impl<L: Ledger> Session<L> {
         ensures takeable { IfOk result (IsTakeable (change_by (step_of command.now).kind) self.now) }
     {
         every_step_is_lawful();
-        let present = &self.present;
-        let flow = flow_of(alloc, &present.program)?;
+        let present = self.versions.present();
+        let flow = flow_of(alloc, present.program)?;
         let scene = Scene {
-            tree: &present.program,
-            symbols: &present.symbols,
-            graph: &self.graph,
+            tree: present.program,
+            symbols: present.symbols,
+            graph: present.graph,
             flow: &flow,
         };
         ped_transformations::answer(alloc, &scene, command)

@@ -5,7 +5,7 @@ use Rattle.std.proofs.lemmas.List.Elements.{All-nil, All-cons}
 use Rattle.ped_tree.specs.Tree.{ProgramTree}
 use Rattle.ped_tree.specs.Printing.{program_text}
 use Rattle.ped_tree.specs.Numbering.{statement_with}
-use Rattle.ped_session.specs.ped_graph.specs.Update.Fresh.{tested_pairs}
+use Rattle.ped_session.specs.ped_update.specs.Fresh.{tested_pairs}
 use Rattle.ped_session.specs.ped_valid.specs.Validity.{ReadsValid}
 use Rattle.ped_session.specs.ped_valid.proofs.OneVerdict.{valid_prints}
 use Rattle.ped_session.specs.ped_steps.specs.Causes.{Cause}

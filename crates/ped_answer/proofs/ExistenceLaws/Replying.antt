@@ -8,7 +8,7 @@ use Rattle.ped_tree.specs.SourcePane.{source_pane}
 use Rattle.ped_tree.specs.Numbering.{statement_with}
 use Rattle.ped_session.specs.ped_symbols.specs.NameRefusals.{IsValid}
 use Rattle.ped_session.specs.ped_graph.specs.DependencePane.{IsDependencePane, IsDependencePaneOf}
-use Rattle.ped_session.specs.ped_graph.specs.Update.Fresh.{tested_pairs}
+use Rattle.ped_session.specs.ped_update.specs.Fresh.{tested_pairs}
 use Rattle.ped_session.specs.ped_valid.specs.Validity.{ReadsValid, RefusesText}
 use Rattle.ped_session.specs.ped_valid.specs.Verdicts.{HasOneValidTree, HasOneFirstRefusal}
 use Rattle.ped_session.specs.ped_valid.proofs.OneVerdict.{one_of_both, valid_prints}
@@ -31,13 +31,13 @@ use Rattle.ped_script.specs.declared.kinds.CommandKind.TheVariants as kind
 use Rattle.ped_script.specs.Kinds.{kind_of}
 use Rattle.ped_script.proofs.OnlyAuto.{only_auto}
 use Rattle.ped_script.specs.declared.items.Item.{Item}
-use Rattle.ped_session.specs.declared.changes.ChangeKind.TheVariants.{Edit}
+use Rattle.ped_session.specs.ped_versions.specs.declared.changes.ChangeKind.TheVariants.{Edit}
 use Rattle.ped_session.specs.declared.replies.Refusal.{Refusal}
 use Rattle.ped_session.specs.declared.replies.Refusal.TheVariants.{BadEdit, Step, NothingToUndo, NothingToRedo, NoSuchStatement, NoSuchLine, NoSuchPair}
 use Rattle.ped_session.specs.declared.replies.Reply.{Reply}
 use Rattle.ped_session.specs.declared.replies.Reply.TheVariants.{Changed, Shown, Refused}
 use Rattle.ped_session.specs.States.{Other, State, opened, changed_to, gone_back_to, gone_forward_to}
-use Rattle.ped_session.specs.Splices.{spliced, are_lines, is_place, edit_keep}
+use Rattle.ped_session.specs.ped_versions.specs.Splices.{spliced, are_lines, is_place, edit_keep}
 use Rattle.ped_session.specs.Panes.{IsSourcePane, ArePanes, tested_row}
 use Rattle.ped_session.specs.OutcomeTexts.{outcome_text, IsRunText}
 use Rattle.ped_session.specs.LoweredRuns.{told_by, IsLoweredRun}

@@ -2,7 +2,7 @@ use Rattle.std.proofs.Common.{◌≡◌, ◌∙◌}
 use Rattle.std.proofs.lemmas.Result.{IfOk-weaker}
 use Rattle.ped_refs.specs.Occurrences.{reference_of}
 use Rattle.ped_affine.specs.Arguments.{setting_of, site}
-use Rattle.ped_graph.specs.Dependences.{site_of}
+use Rattle.ped_laws.specs.ped_graph.specs.Dependences.{site_of}
 use Rattle.ped_evidence.specs.declared.systems.Described.{Described}
 use Rattle.ped_evidence.specs.Symbols.{symbols_of}
 use Rattle.ped_evidence.specs.Systems.{system_at}

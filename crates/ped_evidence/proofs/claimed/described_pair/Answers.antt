@@ -6,7 +6,7 @@ use Rattle.ped_tree.specs.Names.Collecting.{with_names}
 use Rattle.ped_refs.specs.References.{Reference, outermost}
 use Rattle.ped_refs.specs.Occurrences.{reference_of}
 use Rattle.ped_affine.specs.Ranges.{Setting}
-use Rattle.ped_graph.specs.Dependences.{assigned_by, setting_in, site_of}
+use Rattle.ped_laws.specs.ped_graph.specs.Dependences.{assigned_by, setting_in, site_of}
 use Rattle.ped_evidence.specs.declared.systems.Described.{Described}
 use Rattle.ped_evidence.specs.Claims.{system}
 use Rattle.ped_evidence.specs.Symbols.{symbols_of}

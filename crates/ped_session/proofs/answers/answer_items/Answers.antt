@@ -1,11 +1,12 @@
 use Rattle.std.proofs.Common.{◌≡◌, ◌∙◌, ◌+◌, ◌≤◌, ℕ, List, ◌++◌, Bool, ◌||◌, refl, ap, sym, subst, arith, Option, take}
 use Rattle.ped_script.specs.declared.items.Command.{Command}
-use Rattle.ped_session.specs.States.{State}
+use Rattle.ped_versions.specs.States.{State}
 use Rattle.ped_session.specs.declared.answers.Answered.{Answered}
+use Rattle.ped_session.specs.Meanings.{IsMeaningKept}
 use Rattle.ped_session.specs.Scripts.{Said, AnswersCommand, AnswersItems, said_both, bad_command_said}
 use Rattle.ped_session.proofs.OneAnswer.{one_all}
 use Rattle.ped_session.proofs.Answering.{item_within, items_more, items_all}
-use Rattle.ped_session.proofs.KeptMeanings.{items_as_before, kept_in}
+use Rattle.ped_session.proofs.KeptMeanings.{items_as_before}
 use Rattle.ped_session.proofs.answers.answer_items.Goals.{in-Some+in_ok-answer_command-in-Some, in-None+in_ok-answer_bad_command-in-None}
 use Rattle.ped_session.proofs.answers.answer_items.Goals as goal
 
@@ -74,11 +75,10 @@ returns-clause-most g c = λ said last whole.
 pub returns-clause-before : goal.returns-clause-before
 returns-clause-before g c =
     let inv = c.loop-item.invariant in
-    let past = c.loop-item-test.false in
-    let s = c.session.inside in (
+    let past = c.loop-item-test.false in (
       inv.said,
       items_as_before c.interleavings_agree.ensures c.lowering_keeps_the_meaning.ensures c.every_step_is_lawful.ensures c.args.items.now c.args.input.now c.args.session.now c.loop-item.session inv.said
-          (kept_in s.present s.graph s.history.past s.history.future c.session.invariant c.args.session.now s.tested c.session.view_is)
+          (subst IsMeaningKept c.session.view_is c.session.invariant)
           (items_all c.args.items.now c.loop-item.item-index c.args.input.now c.args.session.now c.loop-item.session inv.said (omega (arith, past)) inv.answers),
       inv.bytes,
     )

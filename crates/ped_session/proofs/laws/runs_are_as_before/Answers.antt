@@ -1,4 +1,4 @@
-use Rattle.ped_session.specs.States.{opened}
+use Rattle.ped_versions.specs.States.{opened}
 use Rattle.ped_session.proofs.KeptMeanings.{opened_keeps, items_as_before}
 use Rattle.ped_session.proofs.laws.runs_are_as_before.Goals as goal
 

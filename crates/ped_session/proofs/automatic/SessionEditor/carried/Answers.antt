@@ -1,12 +1,12 @@
-use Rattle.std.proofs.Common.{ap}
+use Rattle.std.proofs.Common.{subst}
 use Rattle.std.proofs.lemmas.Result.{IfOk-weaker}
-use Rattle.ped_session.specs.States.{State}
-use Rattle.ped_session.specs.Holding.{tree_of}
-use Rattle.ped_session.proofs.PresentProgram.{reads_version}
+use Rattle.ped_tree.specs.Views.{program_tree}
+use Rattle.ped_versions.specs.States.{State}
+use Rattle.ped_versions.specs.ped_valid.specs.Validity.{ReadsValid}
 use Rattle.ped_session.proofs.automatic.SessionEditor.carried.Goals as goal
 
 pub returns : goal.returns
 returns g c =
-    let s = c.self.inside in
-    IfOk-weaker c.carried_names.result _ _
-    (λ names h. (tree_of s.present, reads_version s.present c.self.invariant.version c.args.self.now.present (ap (λ (u : State). u.present) c.self.view_is), h)) c.carried_names.ensures
+    let t = program_tree c.present-present.result.program.now in
+    let reads = subst (λ (s : State). ReadsValid s.present t) c.self.view_is c.present-present.ensures.reads in
+    IfOk-weaker c.carried_names.result _ _ (λ names h. (t, reads, h)) c.carried_names.ensures

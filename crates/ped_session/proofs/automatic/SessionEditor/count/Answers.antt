@@ -1,15 +1,15 @@
-use Rattle.std.proofs.Common.{ap}
+use Rattle.std.proofs.Common.{arith, subst}
 use Rattle.ped_transformations.specs.ped_steps.proofs.Answering.{few_numbers}
-use Rattle.std.proofs.Common.{arith}
-use Rattle.ped_session.specs.States.{State}
-use Rattle.ped_session.specs.Holding.{tree_of}
-use Rattle.ped_session.proofs.PresentProgram.{reads_version}
+use Rattle.ped_tree.specs.Views.{program_tree}
+use Rattle.ped_versions.specs.States.{State}
+use Rattle.ped_versions.specs.ped_valid.specs.Validity.{ReadsValid}
 use Rattle.ped_session.proofs.automatic.SessionEditor.count.Goals as goal
 
 pub count-requires : goal.count-requires
-count-requires g c = let few = few_numbers (tree_of c.self.inside.present) c.self.invariant.version.valid in omega (arith, few)
+count-requires g c = let few = few_numbers (program_tree c.present.result.program.now) c.present.ensures.is.valid in omega (arith, few)
 
 pub returns : goal.returns
 returns g c =
-    let s = c.self.inside in
-    (tree_of s.present, reads_version s.present c.self.invariant.version c.args.self.now.present (ap (λ (u : State). u.present) c.self.view_is), c.count.ensures)
+    let t = program_tree c.present.result.program.now in
+    let reads = subst (λ (s : State). ReadsValid s.present t) c.self.view_is c.present.ensures.reads in
+    (t, reads, c.count.ensures)

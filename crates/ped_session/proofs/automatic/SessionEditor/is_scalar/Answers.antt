@@ -1,11 +1,11 @@
-use Rattle.std.proofs.Common.{ap}
-use Rattle.ped_session.specs.States.{State}
-use Rattle.ped_session.specs.Holding.{tree_of}
-use Rattle.ped_session.proofs.PresentProgram.{reads_version}
+use Rattle.std.proofs.Common.{subst}
+use Rattle.ped_tree.specs.Views.{program_tree}
+use Rattle.ped_versions.specs.States.{State}
+use Rattle.ped_versions.specs.ped_valid.specs.Validity.{ReadsValid}
 use Rattle.ped_session.proofs.automatic.SessionEditor.is_scalar.Goals as goal
 
 pub returns : goal.returns
 returns g c =
-    let s = c.self.inside in
-    let t = tree_of s.present in
-    (t, reads_version s.present c.self.invariant.version c.args.self.now.present (ap (λ (u : State). u.present) c.self.view_is), c.is_scalar.ensures t c.self.invariant.version.symbols)
+    let t = program_tree c.present.result.program.now in
+    let reads = subst (λ (s : State). ReadsValid s.present t) c.self.view_is c.present.ensures.reads in
+    (t, reads, c.is_scalar.ensures t c.present.ensures.is.symbols)

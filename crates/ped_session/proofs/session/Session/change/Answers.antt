@@ -1,47 +1,33 @@
-use Rattle.std.proofs.Common.{ℕ, ◌+◌, ◌≤◌, refl, ap, subst, ◌∙◌}
+use Rattle.std.proofs.Common.{refl, sym, ap, subst, ◌∙◌}
 use Rattle.ped_tree.specs.Views.{program_tree}
 use Rattle.ped_tree.specs.Printing.{program_text}
-use Rattle.ped_transformations.specs.ped_graph.specs.Update.Fresh.{tested_pairs}
-use Rattle.ped_session.specs.declared.versions.Version.{Version}
-use Rattle.ped_session.specs.Holding.{tree_of}
-use Rattle.ped_session.specs.declared.changes.ChangeKind.{ChangeKind}
-use Rattle.ped_session.specs.States.{State, changed_to}
-use Rattle.ped_session.proofs.PresentProgram.{graph_of, reads_version}
-use Rattle.ped_session.proofs.Accepted.{changed_by, as_counted, fresh_by}
+use Rattle.ped_versions.specs.ped_update.specs.Fresh.{tested_pairs}
+use Rattle.ped_versions.specs.States.{State, changed_to}
+use Rattle.ped_versions.specs.ped_valid.specs.Validity.{ReadsValid}
+use Rattle.ped_session.specs.Meanings.{IsKept}
+use Rattle.ped_session.proofs.KeptMeanings.{change_keeps}
 use Rattle.ped_session.proofs.session.Session.change.Goals as goal
 
-pub returns-in_err-delta-clause-most : goal.returns-in_err-delta-clause-most
-returns-in_err-delta-clause-most g c old reads =
-    let s = c.self.inside in
-    let held = graph_of s.present s.graph s.history.past s.history.future c.self.invariant c.args.self.now.present (ap (λ (u : State). u.present) c.self.view_is) old reads in
-    subst (λ (n : ℕ). c.update.new.steps ≤ c.args.steps.now + n) (fresh_by s.graph old (program_tree c.args.new.program) c.args.keep.now held) c.update.ensures.most
+pub invariant_of-self-2 : goal.invariant_of-self-2
+invariant_of-self-2 g c =
+    let s = c.self.inside.versions in
+    let text = program_text (program_tree c.args.new.program) in
+    let made = c.in_ok-change.ensures.changes in
+    change_keeps c.args.change text (tested_pairs made.0 (program_tree c.args.new.program) c.args.keep.now) s c.change.new.self c.self.invariant
+    (subst (λ (x : State). IsKept c.args.change x.present text) (sym c.self.view_is) c.requires.meaning) made.2
 
 pub returns-clause-answers : goal.returns-clause-answers
 returns-clause-answers g c =
-    let s = c.self.inside in
-    let t = program_tree c.args.new.program in
-    let old = tree_of s.present in (
+    let new = program_tree c.args.new.program in
+    let made = c.in_ok-change.ensures.changes in (
       refl,
-      old,
-      reads_version s.present c.self.invariant.version c.args.self.now.present (ap (λ (u : State). u.present) c.self.view_is),
-      changed_by c.args.self.now (program_text t) c.replace-other.new.dest.text s.present.text s.history c.reserve.new.self c.push.new.self
-          c.entry_to.result s.tested c.tested-self-inside.result (tested_pairs old t c.args.keep.now)
-          (ap (λ (v : Version). v.text) c.replace-other.ensures.after ∙ c.in_ok-text.ensures) c.push.ensures c.in_ok-reserve.ensures.past
-          (c.entry_to.ensures.text ∙ ap (λ (v : Version). v.text) c.replace-other.ensures.value) c.self.view_is
-          (c.tested-self-inside.ensures ∙ c.in_ok-delta.ensures.tested ∙ fresh_by s.graph old t c.args.keep.now c.self.invariant.graph_is)
-          ∙ ap (λ (k : ChangeKind). changed_to (program_text t) k (tested_pairs old t c.args.keep.now) c.args.self.now) c.entry_to.ensures.change,
+      made.0,
+      subst (λ (s : State). ReadsValid s.present made.0) c.self.view_is made.1,
+      made.2 ∙ ap (changed_to (program_text new) c.args.change (tested_pairs made.0 new c.args.keep.now)) c.self.view_is,
     )
 
-pub returns-clause-ticks : goal.returns-clause-ticks
-returns-clause-ticks g c =
-    let s = c.self.inside in
-    let t = program_tree c.args.new.program in
-    let fresh = fresh_by s.graph (tree_of s.present) t c.args.keep.now c.self.invariant.graph_is in
-    as_counted c.update.new.steps c.args.steps.now c.in_ok-delta.delta.tested (tested_pairs (tree_of s.present) t c.args.keep.now) c.tested-self-inside.result
-    (c.in_ok-delta.ensures.ticks ∙ ap (λ (n : ℕ). c.args.steps.now + n) fresh) (c.in_ok-delta.ensures.tested ∙ fresh) c.tested-self-inside.ensures
+pub returns-in_err-change-clause-most : goal.returns-in_err-change-clause-most
+returns-in_err-change-clause-most g c old reads = c.change.ensures.most old (subst (λ (s : State). ReadsValid s.present old) (sym c.self.view_is) reads)
 
 pub returns-clause-most : goal.returns-clause-most
-returns-clause-most g c old reads =
-    let s = c.self.inside in
-    let held = graph_of s.present s.graph s.history.past s.history.future c.self.invariant c.args.self.now.present (ap (λ (u : State). u.present) c.self.view_is) old reads in
-    subst (λ (n : ℕ). c.update.new.steps ≤ c.args.steps.now + n) (fresh_by s.graph old (program_tree c.args.new.program) c.args.keep.now held) c.update.ensures.most
+returns-clause-most g c old reads = c.change.ensures.most old (subst (λ (s : State). ReadsValid s.present old) (sym c.self.view_is) reads)

@@ -1,35 +1,34 @@
-use Rattle.std.proofs.Common.{ap, sym, subst}
-use Rattle.std.proofs.lemmas.Result.{IfOk-weaker}
+use Rattle.std.proofs.Common.{refl, sym, ap, subst, ◌∙◌}
 use Rattle.ped_tree.specs.Views.{program_tree}
-use Rattle.ped_transformations.specs.ped_symbols.proofs.FewReferences.{few_statements}
-use Rattle.ped_transformations.specs.ped_graph.specs.Update.Fresh.{IsOneToOne}
-use Rattle.ped_session.specs.Holding.{tree_of}
-use Rattle.ped_session.specs.States.{State}
-use Rattle.ped_session.proofs.KeptEnds.{edit_one_to_one}
-use Rattle.ped_session.proofs.PresentProgram.{only_version}
-use Rattle.ped_session.proofs.Accepted.{edit_changes, edit_tests}
+use Rattle.ped_tree.specs.Printing.{program_text}
+use Rattle.ped_versions.specs.ped_update.specs.Fresh.{tested_pairs}
+use Rattle.ped_versions.specs.declared.changes.ChangeKind.TheVariants.{Edit}
+use Rattle.ped_versions.specs.Splices.{edit_keep}
+use Rattle.ped_versions.specs.States.{State, changed_to}
+use Rattle.ped_versions.specs.ped_valid.specs.Validity.{ReadsValid}
+use Rattle.ped_session.proofs.KeptMeanings.{change_keeps}
 use Rattle.ped_session.proofs.session.Session.edit.Goals as goal
 
-pub edit_keep-requires-clause-old : goal.edit_keep-requires-clause-old
-edit_keep-requires-clause-old g c = few_statements (tree_of c.self.inside.present) c.self.invariant.version.valid.fits
-
-pub edit_keep-requires-clause-new : goal.edit_keep-requires-clause-new
-edit_keep-requires-clause-new g c = few_statements (program_tree c.args.new.program) c.requires.valid.fits
-
-pub change-requires-clause-one_to_one : goal.change-requires-clause-one_to_one
-change-requires-clause-one_to_one g c =
-    subst IsOneToOne (sym c.in_ok-keep.ensures) (edit_one_to_one (tree_of c.self.inside.present) (program_tree c.args.new.program) c.args.kept c.args.gone)
+pub invariant_of-self-2 : goal.invariant_of-self-2
+invariant_of-self-2 g c =
+    let s = c.self.inside.versions in
+    let text = program_text (program_tree c.args.new.program) in
+    let made = c.in_ok-edit.ensures.changes in
+    change_keeps Edit text (tested_pairs made.0 (program_tree c.args.new.program) (edit_keep made.0 (program_tree c.args.new.program) c.args.kept c.args.gone)) s c.edit.new.self c.self.invariant
+    tt made.2
 
 pub returns-clause-answers : goal.returns-clause-answers
 returns-clause-answers g c =
-    let s = c.args.self.now in
-    let v = c.self.inside.present in
-    let only = only_version v c.self.invariant.version s.present (ap (λ (u : State). u.present) c.self.view_is) in
-    IfOk-weaker c.change.result _ _ (λ reply change. edit_changes s c.change.new.self (tree_of v) (program_tree c.args.new.program) c.args.kept c.args.gone c.in_ok-keep.keep reply c.in_ok-keep.ensures only change) c.change.ensures.answers
+    let new = program_tree c.args.new.program in
+    let made = c.in_ok-edit.ensures.changes in (
+      refl,
+      made.0,
+      subst (λ (s : State). ReadsValid s.present made.0) c.self.view_is made.1,
+      made.2 ∙ ap (changed_to (program_text new) Edit (tested_pairs made.0 new (edit_keep made.0 new c.args.kept c.args.gone))) c.self.view_is,
+    )
+
+pub returns-in_err-edit-clause-most : goal.returns-in_err-edit-clause-most
+returns-in_err-edit-clause-most g c old reads = c.edit.ensures.most old (subst (λ (s : State). ReadsValid s.present old) (sym c.self.view_is) reads)
 
 pub returns-clause-most : goal.returns-clause-most
-returns-clause-most g c old reads =
-    let s = c.args.self.now in
-    let v = c.self.inside.present in
-    let only = only_version v c.self.invariant.version s.present (ap (λ (u : State). u.present) c.self.view_is) in
-    edit_tests (tree_of v) old (program_tree c.args.new.program) c.args.kept c.args.gone c.in_ok-keep.keep c.args.steps.now c.change.new.steps c.in_ok-keep.ensures (only old reads) (c.change.ensures.most old reads)
+returns-clause-most g c old reads = c.edit.ensures.most old (subst (λ (s : State). ReadsValid s.present old) (sym c.self.view_is) reads)

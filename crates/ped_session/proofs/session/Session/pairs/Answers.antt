@@ -1,9 +1,7 @@
-use Rattle.std.proofs.Common.{ap}
-use Rattle.ped_session.specs.States.{State}
-use Rattle.ped_session.proofs.PresentProgram.{graph_of}
+use Rattle.std.proofs.Common.{sym, subst}
+use Rattle.ped_versions.specs.States.{State}
+use Rattle.ped_versions.specs.ped_valid.specs.Validity.{ReadsValid}
 use Rattle.ped_session.proofs.session.Session.pairs.Goals as goal
 
 pub returns : goal.returns
-returns g c t reads =
-    let s = c.self.inside in
-    c.pair_count.ensures t (graph_of s.present s.graph s.history.past s.history.future c.self.invariant c.args.self.now.present (ap (λ (u : State). u.present) c.self.view_is) t reads)
+returns g c t reads = c.pairs.ensures t (subst (λ (s : State). ReadsValid s.present t) (sym c.self.view_is) reads)

@@ -2,10 +2,10 @@ use Rattle.std.proofs.Common.{sym, subst}
 use Rattle.std.proofs.lemmas.Result.{IfOk-weaker}
 use Rattle.ped_tree.specs.Views.{program_tree}
 use Rattle.ped_tree.specs.declared.grammar.refusals.Refusal as of_text
-use Rattle.ped_valid.specs.Refusals.{IsRefusalOf}
+use Rattle.ped_versions.specs.ped_valid.specs.Refusals.{IsRefusalOf}
 use Rattle.ped_session.specs.declared.replies.Refusal.TheVariants.{BadEdit}
 use Rattle.ped_session.specs.declared.replies.Reply.TheVariants.{Refused}
-use Rattle.ped_session.specs.Splices as Splices
+use Rattle.ped_versions.specs.Splices as Splices
 use Rattle.ped_session.specs.Steps.{Edits}
 use Rattle.ped_session.proofs.Accepted.{made_from, edited, refused_edit, tests_by}
 use Rattle.ped_session.proofs.session.Session.splice.Goals as goal

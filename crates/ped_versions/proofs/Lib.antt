@@ -1,0 +1,10 @@
+mod Accepted
+mod FlagSteps
+mod FlagTrees
+mod FlagWays
+mod HistoryMoves
+mod KeptEnds
+mod LinesLeft
+mod PresentProgram
+mod SerialTrees
+mod States
